@@ -42,7 +42,7 @@ pub enum SettingsError {
     OutOfMemory,
     /// A fault at a place in the text.
     At(Marked),
-    /// What is wrong at no place that is known, such as with the key of a map in TOML, or with a value that has no text.
+    /// What is wrong at no place that is known, such as below long keys in TOML, or with a value that has no text.
     Whole(String),
 }
 

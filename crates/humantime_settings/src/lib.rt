@@ -64,6 +64,7 @@ mod fields;
 mod json_settings;
 mod raw_strings;
 mod toml_places;
+mod toml_search;
 mod toml_settings;
 
 pub use error::{Marked, SettingsError};

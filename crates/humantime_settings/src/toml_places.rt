@@ -2,14 +2,16 @@
 
 use std::alloc::{AllocError, Global};
 use toml_parser::text::{first, skip_blank, skip_ws};
-use toml_parser::{Key, ParseError, dotted_key, quoted, starts_string};
+use toml_parser::{ParseError, quoted, starts_string};
 
-/// A header, a key with its value, or an item of an array.
+/// A part of a key, with what it leads to, or an item of an array.
 #[derive(Clone, Copy)]
 pub(crate) struct Place<'a, 'k> {
-    /// The document from there on.
+    /// The document from there on: from the bracket of a header on at the last part of its key.
     pub start: &'a str,
-    /// The document from the value on. A header has none.
+    /// The document from the part on. An item has none.
+    pub key: Option<&'a str>,
+    /// The document from the value on. A part that is not the last has none, and neither has a header.
     pub value: Option<&'a str>,
     /// What is left of the keys that are looked for, or `None` if its own differ.
     pub left: Option<&'k str>,
@@ -17,14 +19,30 @@ pub(crate) struct Place<'a, 'k> {
     pub depth: usize,
 }
 
-/// A walk over the values of a document that `toml` has read.
+impl Place<'_, '_> {
+    /// Returns `true` for a part of a key that other parts follow.
+    pub(crate) fn is_front(&self) -> bool {
+        self.value.is_none() && first(self.start) != b'['
+    }
+
+    /// Returns `true` for an item of an array, and for a header that adds one.
+    pub(crate) fn is_item(&self) -> bool {
+        self.key.is_none() || self.value.is_none() && self.start.starts_with("[[")
+    }
+}
+
+/// A walk over the keys and values of a document that `toml` has read.
 #[derive(Drop)]
 pub(crate) struct Places<'a, 'k> {
     rest: &'a str,
     /// The keys of the values that are looked for, with dots between them. Items of an array have the keys of the array.
     keys: &'k str,
+    /// Whether `keys` are only the front of these.
+    is_cut: bool,
     /// The table of the last header, and then the arrays and inline tables that are open.
     open: Vec<Open<'k>>,
+    /// The key of which a part is next.
+    parts: Option<Parts<'a, 'k>>,
 }
 
 /// A table or an array that is not at its end.
@@ -33,6 +51,15 @@ struct Open<'k> {
     /// What is left of the keys that are looked for after its own, or `None` if these differ.
     left: Option<&'k str>,
     is_array: bool,
+}
+
+/// A key that is not at its end.
+#[derive(Clone, Copy)]
+struct Parts<'a, 'k> {
+    /// The document from the header on, if the key is that of one.
+    header: Option<&'a str>,
+    /// What is left of the keys that are looked for after the parts so far, or `None` if these differ.
+    left: Option<&'k str>,
 }
 
 impl<'a, 'k> Places<'a, 'k> {
@@ -49,53 +76,117 @@ impl<'a, 'k> Places<'a, 'k> {
         })?;
         // `toml` accepts a byte order mark, too.
         let rest = document.strip_prefix('\u{feff}').unwrap_or(document);
-        Ok(Places { rest, keys, open })
-    }
-
-    /// Passes a header, a value or a mark between values, which is no place.
-    pub(crate) fn step(&mut self, alloc: Global) -> Result<Option<Place<'a, 'k>>, ParseError> {
-        let rest = skip_blank(self.rest, true);
-        self.rest = tail(rest, 1);
-        match first(rest) {
-            b'[' if self.open.len() <= 1 => return Ok(Some(self.open_table(alloc, rest)?)),
-            b']' | b'}' => drop(self.open.pop()),
-            b',' | 0 => {}
-            _ => return Ok(Some(self.value(alloc, rest)?)),
-        }
-        Ok(None)
-    }
-
-    /// Passes the line of a header.
-    fn open_table(&mut self, alloc: Global, header: &'a str) -> Result<Place<'a, 'k>, ParseError> {
-        let key = header.trim_start_matches(|c| matches!(c, '[' | ' ' | '\t'));
-        let (key, after) = dotted_key(alloc, key)?;
-        let left = self.left_after(Some(self.keys), &key);
-        self.open.clear();
-        self.open.push(Open {
-            left,
-            is_array: false,
-        })?;
-        self.rest = tail(after, after.find('\n').unwrap_or(after.len()));
-        let value = None;
-        Ok(Place {
-            start: header,
-            value,
-            left,
-            depth: 0,
+        Ok(Places {
+            rest,
+            keys,
+            is_cut: false,
+            open,
+            parts: None,
         })
     }
 
-    /// Passes a value with its key, or the beginning of an array or an inline table.
-    fn value(&mut self, alloc: Global, rest: &'a str) -> Result<Place<'a, 'k>, ParseError> {
+    /// Creates a walk on which nothing is left of the keys wherever these are the front of a place's own.
+    pub(crate) fn below(
+        alloc: Global,
+        document: &'a str,
+        front: &'k str,
+    ) -> Result<Places<'a, 'k>, AllocError> {
+        Ok(Places {
+            is_cut: true,
+            ..Places::new(alloc, document, front)?
+        })
+    }
+
+    /// Passes a part of a key, with the line of its header or its value behind the last one; an item; or a mark between these, no place.
+    pub(crate) fn step(&mut self, alloc: Global) -> Result<Option<Place<'a, 'k>>, ParseError> {
+        let rest = self.rest;
+        if let Some(parts) = self.parts.take() {
+            return Ok(Some(self.part(alloc, rest, parts)?));
+        }
+        let rest = skip_blank(rest, true);
+        self.rest = tail(rest, 1);
         let depth = self.open.len();
-        let (left, value) = match self.open.last() {
-            Some(open) if open.is_array => (open.left, rest),
-            Some(open) => {
-                let (key, equals) = dotted_key(alloc, rest)?;
-                (self.left_after(open.left, &key), skip_ws(tail(equals, 1)))
+        match (first(rest), self.open.last().copied()) {
+            (b'[', _) if depth <= 1 => Ok(Some(self.header(alloc, rest)?)),
+            (b']' | b'}', _) => {
+                self.open.pop();
+                Ok(None)
             }
-            None => (None, rest),
+            (b',' | 0, _) | (_, None) => Ok(None),
+            (_, Some(Open { left, is_array })) if is_array => {
+                self.pass_value(alloc, rest, left)?;
+                Ok(Some(Place {
+                    start: rest,
+                    key: None,
+                    value: Some(rest),
+                    left,
+                    depth,
+                }))
+            }
+            (_, Some(Open { left, .. })) => {
+                Ok(Some(self.part(alloc, rest, Parts { header: None, left })?))
+            }
+        }
+    }
+
+    /// Passes the first part of the key of a header.
+    fn header(&mut self, alloc: Global, header: &'a str) -> Result<Place<'a, 'k>, ParseError> {
+        let key = header.trim_start_matches(|c| matches!(c, '[' | ' ' | '\t'));
+        let parts = Parts {
+            header: Some(header),
+            left: Some(self.keys),
         };
+        self.part(alloc, key, parts)
+    }
+
+    /// Passes a part of a key, and what the key leads to if the part is the last.
+    fn part(
+        &mut self,
+        alloc: Global,
+        part: &'a str,
+        parts: Parts<'a, 'k>,
+    ) -> Result<Place<'a, 'k>, ParseError> {
+        let (left, after) = self.left_after(alloc, part, parts.left)?;
+        let after = skip_ws(after);
+        let mut place = Place {
+            start: part,
+            key: Some(part),
+            value: None,
+            left,
+            depth: if parts.header.is_some() {
+                0
+            } else {
+                self.open.len()
+            },
+        };
+        if first(after) == b'.' {
+            self.rest = skip_ws(tail(after, 1));
+            self.parts = Some(Parts { left, ..parts });
+            return Ok(place);
+        }
+        if let Some(header) = parts.header {
+            self.open.clear();
+            self.open.push(Open {
+                left,
+                is_array: false,
+            })?;
+            self.rest = tail(after, after.find('\n').unwrap_or(after.len()));
+            place.start = header;
+        } else {
+            let value = skip_ws(tail(after, 1));
+            self.pass_value(alloc, value, left)?;
+            place.value = Some(value);
+        }
+        Ok(place)
+    }
+
+    /// Passes a value, or the beginning of an array or an inline table.
+    fn pass_value(
+        &mut self,
+        alloc: Global,
+        value: &'a str,
+        left: Option<&'k str>,
+    ) -> Result<(), ParseError> {
         self.rest = if starts_string(value) {
             quoted(alloc, value)?.1
         } else if matches!(first(value), b'[' | b'{') {
@@ -112,25 +203,44 @@ impl<'a, 'k> Places<'a, 'k> {
                     .unwrap_or(value.len()),
             )
         };
-        Ok(Place {
-            start: rest,
-            value: Some(value),
-            left,
-            depth,
-        })
+        Ok(())
     }
 
-    /// Returns what is left of the keys after a key.
-    fn left_after(&self, left: Option<&'k str>, key: &Key) -> Option<&'k str> {
-        let mut left = left?;
-        for part in key.path.iter().chain([&key.last]) {
-            if left.len() < self.keys.len() {
-                left = left.strip_prefix('.')?;
-            }
-            left = left.strip_prefix(part.as_str())?;
+    /// Returns what is left of the keys after the part of a key at the front, and the document after that part.
+    fn left_after(
+        &self,
+        alloc: Global,
+        part: &'a str,
+        left: Option<&'k str>,
+    ) -> Result<(Option<&'k str>, &'a str), ParseError> {
+        if starts_string(part) {
+            let (name, after) = quoted(alloc, part)?;
+            return Ok((self.left_after_name(left, &name), after));
         }
-        Some(left)
+        let name = bare_name(part);
+        Ok((self.left_after_name(left, name), tail(part, name.len())))
     }
+
+    /// Returns what is left of the keys after a name.
+    fn left_after_name(&self, left: Option<&'k str>, name: &str) -> Option<&'k str> {
+        let mut left = left?;
+        if self.is_cut && left.is_empty() {
+            return Some(left);
+        }
+        if left.len() < self.keys.len() {
+            left = left.strip_prefix('.')?;
+        }
+        match left.strip_prefix(name) {
+            None if self.is_cut && name.starts_with(left) => Some(""),
+            left => left,
+        }
+    }
+}
+
+/// Returns the part of a key at the front that is not in quotes.
+pub(crate) fn bare_name(part: &str) -> &str {
+    let end = part.find(|c| matches!(c, '.' | '=' | ']' | ' ' | '\t'));
+    part.get(..end.unwrap_or(part.len())).unwrap_or("")
 }
 
 /// Returns the document after the value at the front.

@@ -6,7 +6,8 @@ ghost use Rattle.humantime_settings.specs.Marks.{IsErrorIn};
 
 use crate::error::{SettingsError, marked_at};
 use crate::faults::{Fault, Message, WANTS_DURATION, WANTS_TIMESTAMP, fault_in};
-use crate::toml_places::{Place, Places, after_value};
+use crate::toml_places::{Place, Places};
+use crate::toml_search::{last_read, other_fault, table_without, unknown_key, wrong_key};
 use serde::{DeserializeOwned, Serialize};
 use std::alloc::{AllocError, Global};
 use toml_parser::text::first;
@@ -17,12 +18,12 @@ use toml_parser::{ParseError, Scalar, quoted, starts_string, unquoted};
 /// # Errors
 ///
 /// Returns [`SettingsError::At`] where the document is not TOML, with a value of the wrong type or one that is not a duration or a
-/// timestamp, with an unknown key, and with the first table that lacks a key. A text that is no duration or
-/// timestamp is marked where it is wrong, and any other value at its start. A table is marked at its header or brace, and the one at the top
-/// at the start of the document. Of several wrong values, the one whose keys sort first has the error.
+/// timestamp, with an unknown key, and with the first table that lacks a key. A text or a key that is no duration or timestamp is marked
+/// where it is wrong, and any other value at its start. A table is marked at its header or brace, one that has neither at the first key
+/// that makes it, and the one at the top at the start of the document. Of several wrong values, the one whose keys sort first has the error.
 ///
-/// Returns [`SettingsError::Whole`], with the keys in the message, for a fault in the key of a map, for one in a table that neither a
-/// header nor a brace begins, and for one below keys that have over 80 bytes together.
+/// Returns [`SettingsError::Whole`], with the keys in the message, if the message does not tell the places with these keys apart, and for a
+/// fault that is no duration or timestamp below keys that have over 80 bytes together.
 ///
 /// Returns [`SettingsError::OutOfMemory`] if memory is refused.
 ///
@@ -124,11 +125,17 @@ fn search<T: DeserializeOwned>(
     keys: &str,
 ) -> Result<Option<Fault>, ParseError> {
     let at = if let Some(name) = name_in(said, "unknown field `") {
-        unknown_key(alloc, text, &joined(alloc, keys, name)?)?
+        unknown_key(alloc, text, 0, &joined(alloc, keys, name)?)?
     } else if let Some(name) = name_in(said, "missing field `") {
         table_without(alloc, text, &joined(alloc, keys, name)?, name)?
     } else {
-        return wrong_value::<T>(alloc, text, said, keys);
+        if let Some(fault) = wrong_key::<T>(alloc, text, said, keys)? {
+            return Ok(Some(fault));
+        }
+        return match wrong_value::<T>(alloc, text, said, keys)? {
+            Some(fault) => Ok(Some(fault)),
+            None => other_fault::<T>(alloc, text, said, keys),
+        };
     };
     Ok(match at {
         Some(at) => Some(Fault::at(at, String::from_str(alloc, said)?)),
@@ -137,59 +144,16 @@ fn search<T: DeserializeOwned>(
 }
 
 /// Returns the name at the end of a message.
-fn name_in<'a>(said: &'a str, front: &str) -> Option<&'a str> {
+pub(crate) fn name_in<'a>(said: &'a str, front: &str) -> Option<&'a str> {
     said.strip_prefix(front)?.strip_suffix('`')
 }
 
 /// Returns the keys of a name in a table.
-fn joined(alloc: Global, table: &str, name: &str) -> Result<String, AllocError> {
+pub(crate) fn joined(alloc: Global, table: &str, name: &str) -> Result<String, AllocError> {
     if table.is_empty() {
         return String::from_str(alloc, name);
     }
     format!(in alloc; "{table}.{name}")
-}
-
-/// Returns the offset of the first key that has these keys.
-fn unknown_key(alloc: Global, text: &str, keys: &str) -> Result<Option<usize>, ParseError> {
-    let mut places = Places::new(alloc, text, keys)?;
-    // Each step passes at least one character.
-    for _ in 0..text.len() {
-        let Some(place) = places.step(alloc)? else {
-            continue;
-        };
-        if place.left == Some("") {
-            return Ok(Some(offset_of(text, place.start)));
-        }
-    }
-    Ok(None)
-}
-
-/// Returns the offset of the first table that has no key of this name, with which `keys` end. The table at the top begins with the text.
-fn table_without(
-    alloc: Global,
-    text: &str,
-    keys: &str,
-    name: &str,
-) -> Result<Option<usize>, ParseError> {
-    let mut places = Places::new(alloc, text, keys)?;
-    let mut found = (keys == name).then_some(0);
-    for _ in 0..text.len() {
-        let Some(place) = places.step(alloc)? else {
-            continue;
-        };
-        let is_table = place.value.is_none_or(|value| first(value) == b'{');
-        match place.left {
-            Some("") => found = None,
-            Some(left) if is_table && left.strip_prefix('.') == Some(name) => {
-                if found.is_some() {
-                    return Ok(found);
-                }
-                found = Some(offset_of(text, place.value.unwrap_or(place.start)));
-            }
-            _ => {}
-        }
-    }
-    Ok(found)
 }
 
 /// Returns the fault of a value that has these keys and can have the error `said`.
@@ -226,52 +190,8 @@ fn wrong_value<T: DeserializeOwned>(
 }
 
 /// Returns the offset in a document of what ends it.
-fn offset_of(document: &str, end: &str) -> usize {
+pub(crate) fn offset_of(document: &str, end: &str) -> usize {
     document.len().saturating_sub(end.len())
-}
-
-/// Returns the last of these places that a reader comes to: those behind the fault can have any value.
-fn last_read<'a, 'k, T: DeserializeOwned>(
-    alloc: Global,
-    text: &'a str,
-    said: &str,
-    found: &[Place<'a, 'k>],
-) -> Result<Option<Place<'a, 'k>>, ParseError> {
-    let (mut from, mut to) = (0, found.len());
-    for _ in 0..found.len() {
-        let middle = usize::midpoint(from, to);
-        let Some(place) = found.get(middle).filter(|_| from < middle) else {
-            break;
-        };
-        if is_read::<T>(alloc, text, said, place.value.unwrap_or(""))? {
-            from = middle;
-        } else {
-            to = middle;
-        }
-    }
-    Ok(found.get(from).copied())
-}
-
-/// Returns `true` if a reader comes to a value: the error is not `said` with another one in its place.
-fn is_read<T: DeserializeOwned>(
-    alloc: Global,
-    text: &str,
-    said: &str,
-    value: &str,
-) -> Result<bool, ParseError> {
-    let before = text.get(..offset_of(text, value)).unwrap_or("");
-    let after = after_value(alloc, value)?;
-    let other = if said.starts_with("invalid") {
-        "nan"
-    } else {
-        "'~'"
-    };
-    let changed = format!(in alloc; "{before}{other} {after}")?;
-    match toml::from_str::<T>(alloc, &changed) {
-        Err(error) if error.is_memory() => Err(ParseError::OutOfMemory),
-        Err(error) => Ok(error.message() != said),
-        Ok(_) => Ok(true),
-    }
 }
 
 /// Returns `true` if `toml` or a field can say this of the type of a value.
@@ -313,7 +233,11 @@ fn words_of(alloc: Global, value: &str) -> Result<String, ParseError> {
 }
 
 /// Returns the fault of the string at the front, if it can have the error `said`.
-fn wrong_text(alloc: Global, said: &str, value: &str) -> Result<Option<Fault>, ParseError> {
+pub(crate) fn wrong_text(
+    alloc: Global,
+    said: &str,
+    value: &str,
+) -> Result<Option<Fault>, ParseError> {
     if !starts_string(value) {
         return Ok(None);
     }

@@ -5,6 +5,7 @@ mod drawn;
 mod drawn_strings;
 mod json_faults;
 mod toml_faults;
+mod toml_keys;
 pub mod values;
 
 use humantime::{Duration, StdDuration, SystemTime, Timestamp};

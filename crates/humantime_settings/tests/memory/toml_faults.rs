@@ -88,19 +88,6 @@ fn faults_in_toml(rt: HostRuntime) -> Result<(), Fail> {
 }
 
 #[test]
-fn keys_of_up_to_80_bytes_are_found(rt: HostRuntime) -> Result<(), Fail> {
-    let alloc = rt.alloc();
-    for (count, is_marked) in &[(75, true), (76, false)] {
-        let key = "k".repeat(alloc, *count)?;
-        let text = format!(in alloc; "timeout = '1s'\n{JOB}[days]\n{key} = '1h'\n")?;
-        let told = shown(alloc, from_toml(alloc, &text))?;
-        assert_eq!(rt; told.starts_with("7:"), *is_marked);
-        assert_eq!(rt; told.starts_with("timestamp format is invalid in `days.kkk"), !*is_marked);
-    }
-    Ok(())
-}
-
-#[test]
 fn arrays_in_one_another_are_told_apart(rt: HostRuntime) -> Result<(), Fail> {
     let alloc = rt.alloc();
     // The list is right, and its item is not, however many are in it. At 80 the document is rejected.

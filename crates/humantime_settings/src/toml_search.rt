@@ -1,0 +1,304 @@
+//! The search for the place of an error in a TOML document.
+
+use crate::faults::{Fault, WANTS_DURATION, WANTS_TIMESTAMP, fault_in};
+use crate::toml_places::{Place, Places, after_value, bare_name};
+use crate::toml_settings::{joined, name_in, offset_of, wrong_text};
+use serde::DeserializeOwned;
+use std::alloc::Global;
+use toml_parser::text::first;
+use toml_parser::{ParseError, starts_string};
+
+/// How many values that can have an error are tried.
+const TRIES: usize = 8;
+
+/// Returns the offset of the first key from `start` on that has these keys.
+pub(crate) fn unknown_key(
+    alloc: Global,
+    text: &str,
+    start: usize,
+    keys: &str,
+) -> Result<Option<usize>, ParseError> {
+    let mut places = Places::new(alloc, text, keys)?;
+    // Each step passes at least one character.
+    for _ in 0..text.len() {
+        let Some(place) = places.step(alloc)? else {
+            continue;
+        };
+        let key = place.key.unwrap_or(place.start);
+        if place.left == Some("") && start <= offset_of(text, key) {
+            return Ok(Some(offset_of(text, place.start)));
+        }
+    }
+    Ok(None)
+}
+
+/// Returns the offset of the first table that has no key of this name, with which `keys` end. The table at the top begins with the text,
+/// and one that only dotted keys or longer headers make begins at the first of these.
+pub(crate) fn table_without(
+    alloc: Global,
+    text: &str,
+    keys: &str,
+    name: &str,
+) -> Result<Option<usize>, ParseError> {
+    let mut places = Places::new(alloc, text, keys)?;
+    let (mut found, mut has_name) = ((keys == name).then_some(0), false);
+    for _ in 0..text.len() {
+        let Some(place) = places.step(alloc)? else {
+            continue;
+        };
+        let Some(left) = place.left else {
+            continue;
+        };
+        // What is found so far is in the item before.
+        if place.is_item() && !left.is_empty() {
+            if found.is_some() && !has_name {
+                return Ok(found);
+            }
+            (found, has_name) = (None, false);
+        }
+        has_name |= left.is_empty();
+        let is_table = place.value.is_none_or(|value| first(value) == b'{');
+        if is_table
+            && left.strip_prefix('.') == Some(name)
+            && (found.is_none() || !place.is_front())
+        {
+            found = Some(offset_of(text, place.value.unwrap_or(place.start)));
+        }
+    }
+    Ok(found.filter(|_| !has_name))
+}
+
+/// Returns the fault of the last of these keys, if that can have the error `said` and no value is read that has these keys.
+pub(crate) fn wrong_key<T: DeserializeOwned>(
+    alloc: Global,
+    text: &str,
+    said: &str,
+    keys: &str,
+) -> Result<Option<Fault>, ParseError> {
+    let mut places = Places::new(alloc, text, keys)?;
+    let (mut found, mut tries) = (None, 0_usize);
+    for _ in 0..text.len() {
+        let Some(place) = places.step(alloc)? else {
+            continue;
+        };
+        let Some(key) = place.key.filter(|_| place.left == Some("")) else {
+            continue;
+        };
+        let Some(fault) = fault_of_key(alloc, said, key)? else {
+            continue;
+        };
+        let value = place.value.unwrap_or("");
+        if tries == TRIES || !value.is_empty() && is_read::<T>(alloc, text, said, value)? {
+            return Ok(None);
+        }
+        tries = tries.saturating_add(1);
+        found = found.or(Some(fault.after(offset_of(text, key))));
+    }
+    Ok(found)
+}
+
+/// Returns the fault of the part of a key at the front, if it can have the error `said`.
+fn fault_of_key(alloc: Global, said: &str, key: &str) -> Result<Option<Fault>, ParseError> {
+    if starts_string(key) {
+        return wrong_text(alloc, said, key);
+    }
+    let name = bare_name(key);
+    Ok(fault_in(alloc, said, name, name)?)
+}
+
+/// Returns the fault of another error below these keys.
+pub(crate) fn other_fault<T: DeserializeOwned>(
+    alloc: Global,
+    text: &str,
+    said: &str,
+    keys: &str,
+) -> Result<Option<Fault>, ParseError> {
+    // `toml` cuts keys at 80 bytes, with dots at the end, or before a character that these have no room for.
+    if let Some(front) = keys.strip_suffix("...").filter(|_| keys.len() > 76) {
+        return below_cut_keys::<T>(alloc, text, said, front);
+    }
+    let Some(mut at) = place_of::<T>(alloc, text, said, keys)? else {
+        return Ok(None);
+    };
+    // The name of a variant is a string, or a key in the value.
+    if let Some(name) = name_in(said, "unknown variant `") {
+        if !starts_string(text.get(at..).unwrap_or("")) {
+            let keys = joined(alloc, keys, name)?;
+            at = unknown_key(alloc, text, at, &keys)?.unwrap_or(at);
+        }
+    }
+    let message = String::from_str(alloc, said)?;
+    Ok(Some(Fault::at(at, message)))
+}
+
+/// Returns the fault of a duration or a timestamp below keys with this front.
+fn below_cut_keys<T: DeserializeOwned>(
+    alloc: Global,
+    text: &str,
+    said: &str,
+    front: &str,
+) -> Result<Option<Fault>, ParseError> {
+    let is_no_text = said == WANTS_DURATION || said == WANTS_TIMESTAMP;
+    let mut places = Places::below(alloc, text, front)?;
+    let mut tries = 0_usize;
+    for _ in 0..text.len() {
+        let Some(place) = places.step(alloc)? else {
+            continue;
+        };
+        let Some(value) = place.value.filter(|_| place.left == Some("")) else {
+            continue;
+        };
+        let fault = if is_no_text && !starts_string(value) {
+            let message = String::from_str(alloc, said)?;
+            Some(Fault::at(0, message))
+        } else {
+            wrong_text(alloc, said, value)?
+        };
+        let Some(fault) = fault else {
+            continue;
+        };
+        if has_fault::<T>(alloc, text, said, value)? {
+            return Ok(Some(fault.after(offset_of(text, value))));
+        }
+        tries = tries.saturating_add(1);
+        if tries == TRIES {
+            break;
+        }
+    }
+    Ok(None)
+}
+
+/// Returns the place to which these keys lead, if it is the only one or values in its place show that it has the error.
+fn place_of<T: DeserializeOwned>(
+    alloc: Global,
+    text: &str,
+    said: &str,
+    keys: &str,
+) -> Result<Option<usize>, ParseError> {
+    let found = places_of(alloc, text, said, keys)?;
+    let is_only = found.len() == 1;
+    if !is_only && found.iter().any(|place| place.value.is_none()) {
+        return Ok(None);
+    }
+    let Some(place) = last_read::<T>(alloc, text, said, &found)? else {
+        return Ok(None);
+    };
+    let Some(value) = place.value else {
+        return Ok(Some(offset_of(text, place.start)));
+    };
+    if !is_read::<T>(alloc, text, said, value)? {
+        return Ok(is_only.then_some(offset_of(text, place.start)));
+    }
+    // An array around the last item that is read can have the error, unless an item behind it is not read.
+    let next = found.iter().find(|other| other
+        .value
+        .is_some_and(|other| other.len() < value.len()));
+    let is_sure = match next {
+        Some(next) => next.depth <= place.depth,
+        None => is_only || said.starts_with("unknown variant"),
+    };
+    Ok(is_sure.then_some(offset_of(text, value)))
+}
+
+/// Returns the places to which these keys lead. Only an array has an invalid length.
+fn places_of<'a, 'k>(
+    alloc: Global,
+    text: &'a str,
+    said: &str,
+    keys: &'k str,
+) -> Result<Vec<Place<'a, 'k>>, ParseError> {
+    let mut places = Places::new(alloc, text, keys)?;
+    let mut found: Vec<Place<'a, 'k>> = Vec::new(alloc);
+    for _ in 0..text.len() {
+        let Some(place) = places.step(alloc)? else {
+            continue;
+        };
+        // A table that is found has more keys.
+        let is_more = place.is_front() && !found.is_empty();
+        let is_array = first(place.value.unwrap_or(place.start)) == b'[';
+        if place.left == Some("") && !is_more && (is_array || said != "invalid length") {
+            found.push(place)?;
+        }
+    }
+    Ok(found)
+}
+
+/// Returns the last of these places that a reader comes to: those behind the fault can have any value.
+pub(crate) fn last_read<'a, 'k, T: DeserializeOwned>(
+    alloc: Global,
+    text: &'a str,
+    said: &str,
+    found: &[Place<'a, 'k>],
+) -> Result<Option<Place<'a, 'k>>, ParseError> {
+    let (mut from, mut to) = (0, found.len());
+    for _ in 0..found.len() {
+        let middle = usize::midpoint(from, to);
+        let Some(place) = found.get(middle).filter(|_| from < middle) else {
+            break;
+        };
+        if is_read::<T>(alloc, text, said, place.value.unwrap_or(""))? {
+            from = middle;
+        } else {
+            to = middle;
+        }
+    }
+    Ok(found.get(from).copied())
+}
+
+/// Returns `true` if a reader comes to a value: the error is not `said` with another one in its place.
+fn is_read<T: DeserializeOwned>(
+    alloc: Global,
+    text: &str,
+    said: &str,
+    value: &str,
+) -> Result<bool, ParseError> {
+    for other in ["'~'", "nan"] {
+        let is_said = match with_value::<T>(alloc, text, value, other)? {
+            Some(error) => error.message() == said,
+            None => false,
+        };
+        if !is_said {
+            return Ok(true);
+        }
+    }
+    Ok(false)
+}
+
+/// Returns `true` if a value is the one with the error `said` of a duration or a timestamp: another text in its place has its own error.
+fn has_fault<T: DeserializeOwned>(
+    alloc: Global,
+    text: &str,
+    said: &str,
+    value: &str,
+) -> Result<bool, ParseError> {
+    // Of these, one has another error than `said`, if it is a duration and if it is a timestamp.
+    for (other, quoted) in [
+        ("~", "'~'"),
+        ("2018-02-30 00:00:00", "'2018-02-30 00:00:00'"),
+    ] {
+        let Some(error) = with_value::<T>(alloc, text, value, quoted)? else {
+            continue;
+        };
+        let message = error.message();
+        if message != said && fault_in(alloc, message, other, other)?.is_some() {
+            return Ok(true);
+        }
+    }
+    Ok(false)
+}
+
+/// Returns the error of a document with another value in the place of one.
+fn with_value<T: DeserializeOwned>(
+    alloc: Global,
+    text: &str,
+    value: &str,
+    other: &str,
+) -> Result<Option<toml::de::Error>, ParseError> {
+    let before = text.get(..offset_of(text, value)).unwrap_or("");
+    let after = after_value(alloc, value)?;
+    match toml::from_str::<T>(alloc, &format!(in alloc; "{before}{other} {after}")?) {
+        Err(error) if error.is_memory() => Err(ParseError::OutOfMemory),
+        Err(error) => Ok(Some(error)),
+        Ok(_) => Ok(None),
+    }
+}
