@@ -116,7 +116,10 @@ fn put_string(draw: &mut Draw, kind: Kind, parts: &[&[&str]; 4]) -> Result<(Stri
         let at = draw.below(part.len() as u64) as usize;
         let part = part.get(at).unwrap_or(&"");
         for c in part.chars() {
-            put_blank(draw, kind, &text, &mut pieces)?;
+            // White space behind such a backslash is no text.
+            if !matches!(c, ' ' | '\t' | '\n') {
+                put_blank(draw, kind, &text, &mut pieces)?;
+            }
             let start = draw.text.len();
             text.push(put_char(draw, kind, c)?)?;
             pieces.push(Piece { start, end: draw.text.len(), text_end: text.len() })?;

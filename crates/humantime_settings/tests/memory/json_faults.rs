@@ -39,8 +39,8 @@ const CASES: &[(&str, &str)] = &[
     ),
     (r#"{"timeout":"2h","pauses":["1s","2s","1 é"],"job":{}}"#, r#"1:40 invalid character at 2 | é | "],"job":{}}"#),
     (r#"{"timeout":"2h","days":{"a":"2018-02-14 00:28:07","b":"1h"}}"#, r#"1:57 timestamp format is invalid | h | "}}"#),
-    // A number that is too large, whose whole text is marked; lines that end in CR LF; and an escape before the closing quote.
-    (r#"{"timeout":"1h 1.5ns"}"#, r#"1:13 number is too large or cannot be represented without a lack of precision (values below 1ns are not supported) | 1h 1.5ns | "}"#),
+    // An overflow, which is marked at its span; lines that end in CR LF; and an escape before the closing quote.
+    (r#"{"timeout":"1h 1.5ns"}"#, r#"1:16 number is too large or cannot be represented without a lack of precision (values below 1ns are not supported) | 1.5ns | "}"#),
     ("{\r\n\r\n\r\n\r\n\"pauses\":[\"1s\",\"1h x\"]}", r#"5:20 expected number at 3 | x | "]}"#),
     (r#"{"timeout":"1s \\"}"#, r#"1:16 expected number at 3 | \\ | "}"#),
     // No value, and a date without quotes, which is no JSON.
