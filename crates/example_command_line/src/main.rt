@@ -63,7 +63,7 @@ pub fn options_of(alloc: Global, words: &[String]) -> Result<Options, Error> {
         (Ok(timeout), Ok(window), Ok(since)) => return Ok(Options {
             timeout: Duration::new(timeout),
             window: Duration::new(window),
-            since: since.map(|moment| Timestamp::from(moment)),
+            since: since.map(|time| Timestamp::from(time)),
         }),
         (Err(error), _, _) => ("timeout", marked(alloc, timeout, error)?),
         (_, Err(error), _) => ("window", marked(alloc, window, error)?),

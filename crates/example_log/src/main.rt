@@ -1,4 +1,4 @@
-//! Prints the lines of a log on standard input whose moments are in a range: `example_log FROM TO`, where TO is not in the range.
+//! Prints the lines of a log on standard input whose times are in a range: `example_log FROM TO`, where TO is not in the range.
 //!
 //! A line has its timestamp at the front. A line without one goes with the line before it, and is left out if there is none.
 //!
@@ -27,7 +27,7 @@ fn main(rt: HostRuntime) -> ExitCode {
     ExitCode::from(status)
 }
 
-/// Copies the lines between the moments that the arguments name, and returns the exit status.
+/// Copies the lines between the times that the arguments name, and returns the exit status.
 fn run(rt: &HostRuntime) -> io::Result<u8> {
     let words = env::args(rt)?.skip(1).collect::<Vec<String>>(rt.alloc())?;
     let [from, to] = words.as_slice() else {
@@ -64,7 +64,7 @@ pub fn range_of<'a>(from: &'a str, to: &'a str) -> Result<Range<SystemTime>, Wro
     }
 }
 
-/// Copies the lines of a log whose moments are in a range, each with the lines without a timestamp that follow it.
+/// Copies the lines of a log whose times are in a range, each with the lines without a timestamp that follow it.
 pub fn copy_lines<R: BufRead, W: Write>(
     alloc: Global,
     range: &Range<SystemTime>,
@@ -78,8 +78,8 @@ pub fn copy_lines<R: BufRead, W: Write>(
         if log.by_ref().take(PIECE).read_until(b'\n', &mut piece)? == 0 {
             break;
         }
-        if is_first && let Some(moment) = moment_of(&piece) {
-            is_kept = range.contains(&moment);
+        if is_first && let Some(time) = time_of(&piece) {
+            is_kept = range.contains(&time);
         }
         if is_kept {
             out.write_all(&piece)?;
@@ -89,10 +89,10 @@ pub fn copy_lines<R: BufRead, W: Write>(
     out.flush()
 }
 
-/// Returns the moment of the timestamp at the front of a line, or `None` if there is none.
-fn moment_of(line: &[u8]) -> Option<SystemTime> {
-    let time = line.get(DATE..)?;
-    let end = time.iter().position(|byte| byte.is_ascii_whitespace());
-    let stamp = line.get(..DATE + end.unwrap_or(time.len()))?;
+/// Returns the time of the timestamp at the front of a line, or `None` if there is none.
+fn time_of(line: &[u8]) -> Option<SystemTime> {
+    let rest = line.get(DATE..)?;
+    let end = rest.iter().position(|byte| byte.is_ascii_whitespace());
+    let stamp = line.get(..DATE + end.unwrap_or(rest.len()))?;
     parse_rfc3339_weak(str::from_utf8(stamp).ok()?).ok()
 }
