@@ -5,7 +5,7 @@
 #![tactic(auto)]
 
 use humantime::{Duration, StdDuration, SystemTime};
-use humantime_settings::{AsText, SettingsError, from_toml, to_toml};
+use humantime_settings::{SettingsError, from_toml, to_toml};
 use serde::{Deserialize, Serialize};
 use std::alloc::Global;
 use std::collections::BTreeMap;
@@ -20,10 +20,12 @@ struct Settings {
     #[serde(with = "humantime_settings")]
     timeout: time::Duration,
     /// How long to wait before each further request.
-    retries: Vec<AsText<StdDuration>>,
+    #[serde(with = "humantime_settings")]
+    retries: Vec<StdDuration>,
     backup: Backup,
     /// When the program is switched off, by the name of the occasion.
-    breaks: BTreeMap<String, AsText<SystemTime>>,
+    #[serde(with = "humantime_settings")]
+    breaks: BTreeMap<String, SystemTime>,
 }
 
 /// The settings of backups.

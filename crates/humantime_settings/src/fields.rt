@@ -2,10 +2,10 @@
 
 ghost use Rattle.std.specs.Prelude.{◌≡◌, List, ℕ, Ok, OnOk, IfOk, IfErr, MatchOption, chars, string_bytes};
 ghost use Rattle.std.specs.Duration.{as_nanos};
-ghost use Rattle.serde.specs.Event.{Event, Logs, nothing, text};
+ghost use Rattle.serde.specs.Event.{Logs, key_begins, map_ends, nothing, seq_ends, text};
 ghost use Rattle.serde.specs.Steps.{Begins, Gives};
 ghost use Rattle.humantime.specs.Prelude.{IsPrinted, duration_answer, duration_text, places_of, weak_answer};
-ghost use Rattle.humantime_settings.specs.Texts.{IsText, IsTextOrNothing};
+ghost use Rattle.humantime_settings.specs.Texts.{Form, AreEntries, AreTexts, IsMapFrom, IsText, IsTextOrNothing, Reads, ReadsEntry, Writes};
 
 use crate::faults::{Message, WANTS_DURATION, WANTS_TIMESTAMP, message_of};
 use humantime::laws::printed_moment_reads;
@@ -18,10 +18,11 @@ use serde::{
     Described, Deserialize, DeserializeOwned, Deserializer, Format, Serialize, Serializer,
 };
 use std::alloc::Global;
+use std::collections::BTreeMap;
 use std::time;
 
-/// Writes a field as the canonical text of its value, or as no value if it is `None`, such as `null` in JSON. What is written is read back
-/// as the same value.
+/// Writes a field as the canonical text of its value, or as no value if it is `None`, such as `null` in JSON. A list or a map is written
+/// with such a text for each of its values. What is written is read back as the same value.
 ///
 /// The derive of `Serialize` calls it for a field that is marked with `#[serde(with = "humantime_settings")]`.
 ///
@@ -50,21 +51,21 @@ use std::time;
 /// assert_eq!(rt; serde_json::to_string(rt.alloc(), &pause)?.as_str(), "\"1m 30s\"");
 /// ```
 pub fn serialize<T: Field, S: Serializer>(value: &T, out: &mut S) -> Result<(), S::Error>
-    ensures { OnOk result ((e : Event) × T.IsWrittenAs value.now e × T.IsReadFrom value.now e × Logs (S.written out.old) (S.written out.new) e) }
+    ensures { OnOk result ((form : Form) × T.IsWrittenAs value.now form × T.IsReadFrom value.now form × Writes form (S.written out.old) (S.written out.new)) }
 {
     value.write(out)
 }
 
-/// Reads a field from a text, which `parse_duration` or `parse_rfc3339_weak` of `humantime` parses. An `Option` is `None` if the format has
-/// no value there.
+/// Reads a field from a text, which `parse_duration` or `parse_rfc3339_weak` of `humantime` parses, or from a list or a map of such texts.
+/// An `Option` is `None` if the format has no value there. Of equal keys of a map, the last one counts.
 ///
 /// The derive of `Deserialize` calls it for a field that is marked with `#[serde(with = "humantime_settings")]`.
 ///
 /// # Errors
 ///
 /// Returns an error of the format with the message `expected a duration in quotes` or `expected a timestamp in quotes` if there is no text,
-/// one with the message of `humantime` if there is another text, and one of its own if memory is refused. The formats cut a message at 80
-/// bytes or less; [`from_json`](crate::from_json) and [`from_toml`](crate::from_toml) have the whole.
+/// one with the message of `humantime` if there is another text, and one of its own if there is no list or map, or if memory is refused.
+/// The formats cut a message at 80 bytes or less; [`from_json`](crate::from_json) and [`from_toml`](crate::from_toml) have the whole.
 ///
 /// # Examples
 ///
@@ -89,15 +90,15 @@ pub fn deserialize<'de, T: Field, F: Format>(
     alloc: Global,
     from: &mut Deserializer<'de, '_, F>,
 ) -> Result<T, F::Error>
-    ensures { IfOk result (λ v. (e : Event) × T.IsReadFrom v e × Begins F.gives F.stays from.old e from.new) }
+    ensures { IfOk result (λ v. (form : Form) × T.IsReadFrom v form × Reads F.gives F.stays form from.old from.new) }
 {
     T::read(alloc, from)
 }
 
 /// A type of a field that `#[serde(with = "humantime_settings")]` marks, and of an [`AsText`].
 ///
-/// These types are `StdDuration`, `SystemTime`, `Duration` and `Timestamp` of `humantime`, `Duration` of std, and `Option` of each. The
-/// trait is not for implementing elsewhere.
+/// These types are `StdDuration`, `SystemTime`, `Duration` and `Timestamp` of `humantime`, `Duration` of std, and `Option`, `Vec` and
+/// `BTreeMap` with `String` keys of each. The trait cannot be implemented elsewhere.
 ///
 /// # Examples
 ///
@@ -114,23 +115,42 @@ pub fn deserialize<'de, T: Field, F: Format>(
 /// assert_eq!(rt; json(rt.alloc(), UNIX_EPOCH)?.as_str(), "\"1970-01-01T00:00:00Z\"");
 /// assert_eq!(rt; json(rt.alloc(), None::<StdDuration>)?.as_str(), "null");
 /// ```
-pub trait Field: Sized + Drop {
-    // The value is written as this event.
-    ghost IsWrittenAs: { Self → Event → Type 0 };
+pub trait Field: Value {}
 
-    // The value is read from this event.
-    ghost IsReadFrom: { Self → Event → Type 0 };
+impl Field for StdDuration {}
+
+impl Field for SystemTime {}
+
+impl Field for Duration {}
+
+impl Field for Timestamp {}
+
+impl Field for time::Duration {}
+
+impl<T: Field + Text> Field for Option<T> {}
+
+impl<T: Field + Text> Field for Vec<T> {}
+
+impl<T: Field + Text> Field for BTreeMap<String, T> {}
+
+/// What a field does. No other crate can name this trait.
+trait Value: Sized + Drop {
+    // The value is written in this form.
+    ghost IsWrittenAs: { Self → Form → Type 0 };
+
+    // The value is read from this form.
+    ghost IsReadFrom: { Self → Form → Type 0 };
 
     /// Writes the value, as [`serialize`] does.
     fn write<S: Serializer>(&self, out: &mut S) -> Result<(), S::Error>
-        ensures { OnOk result ((e : Event) × IsWrittenAs self.now e × IsReadFrom self.now e × Logs (S.written out.old) (S.written out.new) e) };
+        ensures { OnOk result ((form : Form) × IsWrittenAs self.now form × IsReadFrom self.now form × Writes form (S.written out.old) (S.written out.new)) };
 
     /// Reads a value, as [`deserialize`] does.
     fn read<F: Format>(alloc: Global, from: &mut Deserializer<'_, '_, F>) -> Result<Self, F::Error>
-        ensures { IfOk result (λ v. (e : Event) × IsReadFrom v e × Begins F.gives F.stays from.old e from.new) };
+        ensures { IfOk result (λ v. (form : Form) × IsReadFrom v form × Reads F.gives F.stays form from.old from.new) };
 }
 
-/// A value that is written as text in a list or a map, or by itself.
+/// A value that is written as a field is, as the key of a map, in any collection, or by itself.
 ///
 /// # Examples
 ///
@@ -150,7 +170,7 @@ pub trait Field: Sized + Drop {
 pub struct AsText<T>(pub T);
 
 impl<T: Field> Described for AsText<T> {
-    ghost writes = { λ v old new. (e : Event) × T.IsWrittenAs v.0 e × T.IsReadFrom v.0 e × Logs old new e };
+    ghost writes = { λ v old new. (form : Form) × T.IsWrittenAs v.0 form × T.IsReadFrom v.0 form × Writes form old new };
 }
 
 impl<T: Field> Serialize for AsText<T> {
@@ -198,7 +218,7 @@ trait Text: Sized + Drop {
         ensures refused { IfErr result (λ _. (v : Self) → ¬ IsParsedFrom v text.now) };
 }
 
-impl<T: Text> Field for T {
+impl<T: Text> Value for T {
     ghost IsWrittenAs = { IsText T.IsPrintedAs };
 
     ghost IsReadFrom = { IsText T.IsParsedFrom };
@@ -208,18 +228,11 @@ impl<T: Text> Field for T {
     }
 
     fn read<F: Format>(alloc: Global, from: &mut Deserializer<'_, '_, F>) -> Result<T, F::Error> {
-        let text = match from.string(alloc) {
-            Ok(text) => text,
-            Err(error) => return Err(no_text::<T, F>(from, error)),
-        };
-        match T::parse_text(&text) {
-            Ok(value) => Ok(value),
-            Err(message) => Err(from.custom(message.as_str())),
-        }
+        read_text(alloc, from)
     }
 }
 
-impl<T: Text> Field for Option<T> {
+impl<T: Text> Value for Option<T> {
     ghost IsWrittenAs = { IsTextOrNothing T.IsPrintedAs };
 
     ghost IsReadFrom = { IsTextOrNothing T.IsParsedFrom };
@@ -235,15 +248,121 @@ impl<T: Text> Field for Option<T> {
         alloc: Global,
         from: &mut Deserializer<'_, '_, F>,
     ) -> Result<Option<T>, F::Error> {
-        let text = match text_or_none(alloc, from) {
-            Ok(Some(text)) => text,
-            Ok(None) => return Ok(None),
-            Err(error) => return Err(no_text::<T, F>(from, error)),
-        };
-        match T::parse_text(&text) {
-            Ok(value) => Ok(Some(value)),
-            Err(message) => Err(from.custom(message.as_str())),
+        if from.take_none()? {
+            return Ok(None);
         }
+        Ok(Some(read_text(alloc, from)?))
+    }
+}
+
+impl<T: Text> Value for Vec<T> {
+    ghost IsWrittenAs = { λ list. AreTexts T.IsPrintedAs list.items };
+
+    ghost IsReadFrom = { λ list. AreTexts T.IsParsedFrom list.items };
+
+    fn write<S: Serializer>(&self, out: &mut S) -> Result<(), S::Error> {
+        out.begin_seq(Some(self.len()))?;
+        for item in self {
+            item.write_text(out)?;
+        }
+        out.end_seq()
+    }
+
+    fn read<F: Format>(
+        alloc: Global,
+        from: &mut Deserializer<'_, '_, F>,
+    ) -> Result<Vec<T>, F::Error> {
+        from.begin_seq()?;
+        let mut items = Vec::new(alloc);
+        for _ in 0..u64::MAX {
+            match next_item(alloc, from)? {
+                Some(item) => match items.push(item) {
+                    Ok(()) => {}
+                    Err(_) => return Err(from.no_memory()),
+                },
+                None => return Ok(items),
+            }
+        }
+        Err(from.wrong_len())
+    }
+}
+
+impl<T: Text> Value for BTreeMap<String, T> {
+    ghost IsWrittenAs = { λ map. AreEntries T.IsPrintedAs map.entries };
+
+    ghost IsReadFrom = { IsMapFrom T.IsParsedFrom };
+
+    fn write<S: Serializer>(&self, out: &mut S) -> Result<(), S::Error> {
+        out.begin_map(Some(self.len()))?;
+        for (key, value) in self {
+            out.begin_key()?;
+            out.str(key)?;
+            out.end_key()?;
+            value.write_text(out)?;
+        }
+        out.end_map()
+    }
+
+    fn read<F: Format>(
+        alloc: Global,
+        from: &mut Deserializer<'_, '_, F>,
+    ) -> Result<BTreeMap<String, T>, F::Error> {
+        from.begin_map()?;
+        let mut entries = BTreeMap::new(alloc);
+        for _ in 0..u64::MAX {
+            match next_entry(alloc, from)? {
+                Some((key, value)) => match entries.insert(key, value) {
+                    Ok(old) => drop(old),
+                    Err(_) => return Err(from.no_memory()),
+                },
+                None => return Ok(entries),
+            }
+        }
+        Err(from.wrong_len())
+    }
+}
+
+/// Reads the next item of a list, or `None` at its end.
+fn next_item<T: Text, F: Format>(
+    alloc: Global,
+    from: &mut Deserializer<'_, '_, F>,
+) -> Result<Option<T>, F::Error>
+    ensures { IfOk result (λ o. MatchOption o (Gives F.gives from.old seq_ends from.new) (λ v. (t : List ℕ) × T.IsParsedFrom v t × Begins F.gives F.stays from.old (text t) from.new)) }
+{
+    if !from.next_item()? {
+        return Ok(None);
+    }
+    Ok(Some(read_text(alloc, from)?))
+}
+
+/// Reads the next entry of a map, or `None` at its end.
+fn next_entry<T: Text, F: Format>(
+    alloc: Global,
+    from: &mut Deserializer<'_, '_, F>,
+) -> Result<Option<(String, T)>, F::Error>
+    ensures { IfOk result (λ o. MatchOption o (Gives F.gives from.old map_ends from.new) (λ p. (t : List ℕ) × T.IsParsedFrom p.1 t × ReadsEntry F.gives (string_bytes p.0, t) from.old from.new)) }
+{
+    if !from.next_entry()? {
+        return Ok(None);
+    }
+    let key = from.string(alloc)?;
+    Ok(Some((key, read_text(alloc, from)?)))
+}
+
+/// Reads a text and parses it.
+fn read_text<T: Text, F: Format>(
+    alloc: Global,
+    from: &mut Deserializer<'_, '_, F>,
+) -> Result<T, F::Error>
+    ensures { IfOk result (λ v. (t : List ℕ) × T.IsParsedFrom v t × Gives F.gives from.old (text t) from.new) }
+{
+    let text = match from.string(alloc) {
+        Ok(text) => text,
+        Err(error) => return Err(no_text::<T, F>(from, error)),
+    };
+    match T::parse_text(&text) {
+        Ok(value) => Ok(value),
+        Err(message) => Err(from.custom(message.as_str())),
     }
 }
 
@@ -254,19 +373,6 @@ fn no_text<T: Text, F: Format>(from: &Deserializer<'_, '_, F>, error: F::Error) 
     } else {
         from.custom(T::wanted())
     }
-}
-
-/// Reads a text, or `None` if the format has no value there.
-fn text_or_none<F: Format>(
-    alloc: Global,
-    from: &mut Deserializer<'_, '_, F>,
-) -> Result<Option<String>, F::Error>
-    ensures { IfOk result (λ o. MatchOption o (Gives F.gives from.old nothing from.new) (λ s. Begins F.gives F.stays from.old (text (string_bytes s)) from.new)) }
-{
-    if from.take_none()? {
-        return Ok(None);
-    }
-    Ok(Some(from.string(alloc)?))
 }
 
 impl Text for StdDuration {

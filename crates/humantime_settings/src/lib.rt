@@ -1,9 +1,10 @@
 //! Settings with durations and timestamps as text: `serde` reads and writes them in JSON, TOML or another format, and an error shows its
 //! place.
 //!
-//! - [`#[serde(with = "humantime_settings")]`](Field) marks a field of a type that derives `Serialize` or `Deserialize`. An `Option` also
-//!   needs `default`, as in `#[serde(default, with = "humantime_settings")]`, to be `None` if it is missing.
-//! - [`AsText`] is an item of a list or a map.
+//! - [`#[serde(with = "humantime_settings")]`](Field) marks a field of a type that derives `Serialize` or `Deserialize`: a duration, a
+//!   timestamp, or a list or a map of these. An `Option` also needs `default`, as in `#[serde(default, with = "humantime_settings")]`, to
+//!   be `None` if it is missing.
+//! - [`AsText`] is the key of a map, or an item of another collection.
 //! - [`from_json`] and [`from_toml`] read settings. Their error, [`SettingsError`], has the line, the column, the whole message of
 //!   `humantime`, and a mark under the fault.
 //! - [`to_json`] and [`to_toml`] write settings, each value as its canonical text.
@@ -12,7 +13,7 @@
 //!
 //! ```
 //! use humantime::{StdDuration, SystemTime};
-//! use humantime_settings::{AsText, from_json, to_json};
+//! use humantime_settings::{from_json, to_json};
 //! use serde::{Deserialize, Serialize};
 //! use std::test::Fail;
 //! use std::time::Duration;
@@ -21,7 +22,8 @@
 //! struct Settings {
 //!     #[serde(with = "humantime_settings")]
 //!     timeout: Duration,
-//!     retries: Vec<AsText<StdDuration>>,
+//!     #[serde(with = "humantime_settings")]
+//!     retries: Vec<StdDuration>,
 //!     backup: Backup,
 //! }
 //!

@@ -1,6 +1,7 @@
 //! Tests that need memory.
 
 mod bad_input;
+mod collections;
 mod drawn;
 mod drawn_strings;
 mod json_faults;
