@@ -17,8 +17,8 @@ use std::alloc::{AllocError, Global};
 /// # Errors
 ///
 /// Returns [`SettingsError::At`] with the first fault, and [`SettingsError::OutOfMemory`] if memory is refused. A text that is no
-/// duration or timestamp is marked where it is wrong, and any other value at its start. An unknown key is marked at its start, and a missing
-/// one where its object ends.
+/// duration or timestamp is marked where it is wrong, and any other value at its start. An unknown key, or one that stands twice, is
+/// marked at its start, and a missing one where its object ends.
 ///
 /// # Examples
 ///
@@ -80,10 +80,17 @@ fn located(alloc: Global, text: &str, error: &serde_json::Error) -> Result<Fault
     let mut message = error.to_string(alloc)?;
     message.truncate(message.rfind(" at line ").unwrap_or(message.len()));
     let at = offset_of(text, error);
+    if message.starts_with("duplicate field") {
+        return Ok(Fault::at(key_before(text, at), message));
+    }
     let front = text.get(at..).unwrap_or("");
-    // The message leaves out which type, field or variant.
+    // The message leaves out which type, number, field or variant.
     if message.as_str() == "invalid type" {
         let message = format!(in alloc; "invalid type: {}", type_of(front))?;
+        return Ok(Fault::at(at, message));
+    }
+    if message.as_str() == "invalid value" && type_of(front) == "number" {
+        let message = format!(in alloc; "invalid value: number `{}`", front_word(front))?;
         return Ok(Fault::at(at, message));
     }
     let string = front_text(front);
@@ -114,18 +121,38 @@ fn type_of(document: &str) -> &'static str {
     }
 }
 
+/// Returns the document up to what can stand behind a number.
+fn front_word(document: &str) -> &str {
+    let end = document.find(|c| matches!(c, ',' | ']' | '}' | ' ' | '\t' | '\r' | '\n'));
+    document.get(..end.unwrap_or(document.len())).unwrap_or("")
+}
+
 /// Returns the document up to its second quote that no backslash escapes: the whole string, if it begins with one.
 fn front_text(document: &str) -> &str {
     for (at, _) in document.match_indices('"').skip(1) {
-        let before = document.get(..at).unwrap_or("");
-        let backslashes = before
-            .len()
-            .saturating_sub(before.trim_end_matches('\\').len());
-        if backslashes % 2 == 0 {
+        if !ends_in_escape(document.get(..at).unwrap_or("")) {
             return document.get(..=at).unwrap_or("");
         }
     }
     ""
+}
+
+/// Returns the offset of the key of the value at an offset, or this offset if no key is before it.
+fn key_before(document: &str, at: usize) -> usize {
+    let before = document.get(..at).unwrap_or("");
+    let key = before.trim_end_matches(|c| matches!(c, ':' | ' ' | '\t' | '\r' | '\n'));
+    for (quote, _) in key.rmatch_indices('"').skip(1) {
+        if !ends_in_escape(key.get(..quote).unwrap_or("")) {
+            return quote;
+        }
+    }
+    at
+}
+
+/// Returns `true` if a backslash at the end of a text escapes what follows.
+fn ends_in_escape(text: &str) -> bool {
+    let before = text.trim_end_matches('\\');
+    text.len().saturating_sub(before.len()) % 2 == 1
 }
 
 /// Returns the offset of an error in the document. The error has a line, from 1, and a column, in bytes from 1.

@@ -56,6 +56,10 @@ const CASES: &[(&str, &str)] = &[
     (r#"{"timeout":"2h","pairs":[[1], 2]}"#, "1:31 invalid type: number |  | 2]}"),
     (r#"{"timeout":"2h","more.every":-7}"#, "1:30 invalid type: number |  | -7}"),
     (r#"{"timeout":"2h","job":false}"#, "1:23 invalid type: boolean |  | false}"),
+    // A number that does not fit, and a key that stands twice, which can have escapes.
+    ("{\"counts\":[1, 9223372036854775808 ]}", "1:15 invalid value: number `9223372036854775808` |  | 9223372036854775808 ]}"),
+    ("{\"timeout\":\"2h\",\n \"timeout\" :\n\"2h\"}", "2:2 duplicate field `timeout` |  | \"timeout\" :"),
+    ("{\"timeout\":\"2h\",\"time\\u006fut\":\"\\\"\"}", "1:17 duplicate field `timeout` |  | \"time\\u006fut\":\"\\\"\"}"),
     // What is missing, unknown or cut.
     ("{\"timeout\":\"2h\",\n\"job\":{ \"nm\\u0061e\\n\":1}}", "2:9 unknown field `nmae\n` |  | \"nm\\u0061e\\n\":1}}"),
     ("{\n  \"timeout\": \"2h\",\n  \"job\": {\"name\": \"é\", \"every\": \"5us\"}\n}", "3:38 missing field `since` |  | }"),
