@@ -151,7 +151,7 @@ fn error_of(alloc: Global, kind: Kind, is_time: bool, document: &str) -> Option<
 #[test]
 fn drawn_strings(rt: HostRuntime) -> Result<(), Fail> {
     let alloc = rt.alloc();
-    for seed in 1..=1500 {
+    for seed in 1..=600 {
         let mut draw = Draw::new(alloc, seed * 0x9E37_79B9, 0);
         let kind = *KINDS.get(draw.below(KINDS.len() as u64) as usize).ok_or("no kind")?;
         let is_time = draw.below(2) == 0;
