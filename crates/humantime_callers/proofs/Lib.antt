@@ -1,5 +1,6 @@
 pub mod CountedDays
 pub mod FirstDigits
+pub mod Kept
 pub mod LastErrors
 pub mod LongFractions
 pub mod Rounding

@@ -5,6 +5,7 @@
 //! changes at one value is refused.
 #![tactic(auto)]
 
+pub mod buffers;
 pub mod calendar;
 pub mod counted_calendar;
 pub mod displays;
