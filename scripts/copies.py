@@ -76,9 +76,10 @@ def copied(to, crates=tuple(STANDS_ON), without=("must-fail", "out", "tests")):
 
 def once(crates, attempt, *given):
     """Returns the failures of an attempt that reads these crates, those below them and what is given. It is not made again if it passed on
-    this machine with the same of all these, the scripts and the kit. `--anew` makes it."""
+    this machine with the same of all these, the script, what scripts share, and the kit. `--anew` makes it."""
     paths = [path for name in below(*crates) for path in (CRATES / name).rglob("*") if path.is_file() and "out" not in path.parts]
-    sums = [(str(path.relative_to(ROOT)), sha256(path.read_bytes()).hexdigest()) for path in sorted([*paths, *ROOT.glob("scripts/*")])]
+    paths = [path for path in paths if path.suffix != ".md"] + [*ROOT.glob("scripts/*.py"), Path(sys.argv[0]).resolve()]
+    sums = [(str(path.relative_to(ROOT)), sha256(path.read_bytes()).hexdigest()) for path in sorted(paths)]
     read_too = run("rt", "version").stdout, attempt.__name__, given, [STANDS_ON[name] for name in sorted(below(*crates))]
     mark = PASSED / sha256(repr((read_too, sums)).encode()).hexdigest()
     failed = [] if mark.exists() and "--anew" not in sys.argv else attempt(*given)
