@@ -1,7 +1,7 @@
 //! The library's results of calls about durations.
 
 use crate::display::is_always_written;
-use crate::writing::{all_agree, no_result, parts, write_equal, write_message, write_result};
+use crate::writing::{all_agree, no_result, parts, write_message, write_result};
 use humantime::{
     Duration, DurationError, FormattedDuration, StdDuration, canonical, format_duration,
     parse_duration,
@@ -76,13 +76,6 @@ fn is_itself_alone(error: DurationError<'_>) -> bool {
         value,
     };
     all_agree(&[is_itself, error != later, error != longer])
-}
-
-/// Writes whether the errors of two texts are equal.
-pub(crate) fn compare_errors<W: fmt::Write>(f: &mut Formatter<W>, texts: &str) -> fmt::Result {
-    let (first, second) = texts.split_once("\" \"").unwrap_or_default();
-    let first = parse_duration(first).err();
-    write_equal(f, first, parse_duration(second).err())
 }
 
 /// Writes the value that the text is parsed to as a wrapper, and the wrapper's text; or the error.

@@ -6,7 +6,6 @@
 //! for each call and all together.
 #![tactic(auto)]
 
-mod debug;
 mod display;
 mod durations;
 mod order;

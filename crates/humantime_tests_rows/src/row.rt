@@ -2,7 +2,7 @@
 
 use crate::display::is_written;
 use crate::writing::unquoted;
-use crate::{debug, durations, spans, std_durations, system_times, timestamps};
+use crate::{durations, spans, std_durations, system_times, timestamps};
 use std::alloc::AllocError;
 use std::fmt::{self, Display, Formatter, Write};
 
@@ -46,10 +46,6 @@ impl Display for Row<'_> {
             "refusal" => timestamps::explain(f, text, wanted),
             "day" => timestamps::number_day(f, rest),
             "date" => timestamps::date_day(f, rest),
-            "debug" => debug::write_debug(f, rest),
-            "Date::eq" => timestamps::compare_dates(f, rest),
-            "DurationError::eq" => durations::compare_errors(f, text),
-            "TimestampError::eq" => timestamps::compare_errors(f, text),
             "Duration::from_str" => durations::wrap(f, text),
             "Timestamp::from_str" => timestamps::wrap(f, text),
             "UNIX_EPOCH" => system_times::write_call(f, call, rest),

@@ -16,8 +16,7 @@ pub(crate) fn write_call<W: fmt::Write>(
         "MAX" => write_value(f, StdDuration::MAX),
         "default" => write_default(f),
         "checked_new" => make(f, numbers),
-        "from_secs" => from_secs(f, numbers),
-        "from_micros" => from_micros(f, numbers),
+        "from_secs" | "from_micros" => from_number(f, name, numbers),
         "checked_add" => add(f, numbers),
         "cmp" => compare(f, numbers),
         _ => no_result(f),
@@ -74,16 +73,11 @@ fn make<W: fmt::Write>(f: &mut Formatter<W>, numbers: &str) -> fmt::Result {
     }
 }
 
-fn from_secs<W: fmt::Write>(f: &mut Formatter<W>, number: &str) -> fmt::Result {
+/// Writes the duration of a number of seconds, or of microseconds.
+fn from_number<W: fmt::Write>(f: &mut Formatter<W>, name: &str, number: &str) -> fmt::Result {
     match number.parse() {
-        Ok(secs) => write_value(f, StdDuration::from_secs(secs)),
-        Err(_) => no_result(f),
-    }
-}
-
-fn from_micros<W: fmt::Write>(f: &mut Formatter<W>, number: &str) -> fmt::Result {
-    match number.parse() {
-        Ok(micros) => write_value(f, StdDuration::from_micros(micros)),
+        Ok(number) if name == "from_secs" => write_value(f, StdDuration::from_secs(number)),
+        Ok(number) => write_value(f, StdDuration::from_micros(number)),
         Err(_) => no_result(f),
     }
 }

@@ -1,8 +1,8 @@
 //! The library's results of the calls of `SystemTime` and `SystemTimeError`, and those of the wrapper.
 
 use crate::order::{hash_of, is_order};
-use crate::writing::{all_agree, no_result, parts, two_parts, write_equal, write_result};
-use humantime::{StdDuration, SystemTime, SystemTimeError, Timestamp, UNIX_EPOCH};
+use crate::writing::{all_agree, no_result, parts, two_parts, write_result};
+use humantime::{StdDuration, SystemTime, Timestamp, UNIX_EPOCH};
 use std::fmt::{self, Formatter, Write};
 
 /// Writes the result of the call of this name.
@@ -17,7 +17,6 @@ pub(crate) fn write_call<W: fmt::Write>(
         "checked_add" => add(f, numbers),
         "duration_since" => differ(f, numbers),
         "cmp" => compare(f, numbers),
-        "eq" => compare_errors(f, numbers),
         _ => no_result(f),
     }
 }
@@ -113,16 +112,4 @@ fn compare<W: fmt::Write>(f: &mut Formatter<W>, numbers: &str) -> fmt::Result {
         is_order(Timestamp::from(first), Timestamp::from(second), order),
     ]);
     write_result(f, order, is_agreed)
-}
-
-/// Writes whether the errors of `duration_since` for two moments after the epoch are equal.
-fn compare_errors<W: fmt::Write>(f: &mut Formatter<W>, numbers: &str) -> fmt::Result {
-    let Some((first, second)) = two_moments(numbers) else {
-        return no_result(f);
-    };
-    write_equal(f, error_before(first), error_before(second))
-}
-
-fn error_before(moment: SystemTime) -> Option<SystemTimeError> {
-    UNIX_EPOCH.duration_since(moment).err()
 }

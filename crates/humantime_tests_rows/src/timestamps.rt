@@ -1,7 +1,7 @@
 //! The library's results of calls about timestamps and days.
 
 use crate::display::{is_always_written, refused_requests};
-use crate::writing::{all_agree, no_result, parts, write_equal, write_message, write_result};
+use crate::writing::{all_agree, no_result, parts, write_message, write_result};
 use humantime::{
     Date, Rfc3339Timestamp, SystemTime, Timestamp, TimestampError, Turns, date_of_day, day_number,
     format_rfc3339, format_rfc3339_micros, format_rfc3339_millis, format_rfc3339_nanos,
@@ -17,18 +17,13 @@ pub(crate) fn parse_strictly<W: fmt::Write>(f: &mut Formatter<W>, text: &str) ->
 /// Writes the seconds and nanoseconds of the text in the weak form, or the error.
 pub(crate) fn parse_weakly<W: fmt::Write>(f: &mut Formatter<W>, text: &str) -> fmt::Result {
     let read = parse_rfc3339_weak(text);
-    let wrapped: Result<Timestamp, TimestampError> = text.parse();
-    let same = match wrapped {
-        Ok(wrapper) => Ok(SystemTime::from(wrapper)),
-        Err(error) => Err(error),
-    };
+    let same = text.parse::<Timestamp>().map(SystemTime::from);
     write_result(f, parts_of(read), same == read)
 }
 
 /// Writes the value that the text is parsed to as a wrapper, and the wrapper's text; or the error.
 pub(crate) fn wrap<W: fmt::Write>(f: &mut Formatter<W>, text: &str) -> fmt::Result {
-    let wrapped: Result<Timestamp, TimestampError> = text.parse();
-    match wrapped {
+    match text.parse::<Timestamp>() {
         Ok(wrapper) => {
             let parts = parts_of(Ok(*wrapper.as_ref()));
             write!(f, "{parts:?}, {wrapper}")
@@ -39,10 +34,7 @@ pub(crate) fn wrap<W: fmt::Write>(f: &mut Formatter<W>, text: &str) -> fmt::Resu
 
 /// Returns the seconds and nanoseconds of a result.
 fn parts_of(read: Result<SystemTime, TimestampError>) -> Result<(i64, u32), TimestampError> {
-    match read {
-        Ok(moment) => Ok((moment.unix_seconds(), moment.subsec_nanos())),
-        Err(error) => Err(error),
-    }
+    read.map(|moment| (moment.unix_seconds(), moment.subsec_nanos()))
 }
 
 /// Writes the message of the text's error.
@@ -52,13 +44,6 @@ pub(crate) fn explain<W: fmt::Write>(
     wanted: &str,
 ) -> fmt::Result {
     write_message(f, parse_rfc3339_weak(text).err(), wanted, 1)
-}
-
-/// Writes whether the errors of two texts are equal.
-pub(crate) fn compare_errors<W: fmt::Write>(f: &mut Formatter<W>, texts: &str) -> fmt::Result {
-    let (first, second) = texts.split_once("\" \"").unwrap_or_default();
-    let first = parse_rfc3339_weak(first).err();
-    write_equal(f, first, parse_rfc3339_weak(second).err())
 }
 
 /// Writes the text of a moment of these seconds and nanoseconds, as the call of this name prints it.
@@ -124,18 +109,6 @@ pub(crate) fn date_day<W: fmt::Write>(f: &mut Formatter<W>, number: &str) -> fmt
     let Ok(number) = number.parse() else {
         return no_result(f);
     };
-    let date = match date_of_day(number, &mut Turns::new()) {
-        Some(date) => Some((date.year, date.month, date.day)),
-        None => None,
-    };
-    write_result(f, date, true)
-}
-
-/// Writes whether the dates of two days are equal.
-pub(crate) fn compare_dates<W: fmt::Write>(f: &mut Formatter<W>, numbers: &str) -> fmt::Result {
-    let Some((first, second)) = parts(numbers) else {
-        return no_result(f);
-    };
-    let first = date_of_day(first, &mut Turns::new());
-    write_equal(f, first, date_of_day(second, &mut Turns::new()))
+    let date = date_of_day(number, &mut Turns::new());
+    write_result(f, date.map(|date| (date.year, date.month, date.day)), true)
 }

@@ -44,26 +44,6 @@ pub(crate) fn write_message<W: fmt::Write, E: Display + Copy>(
     }
 }
 
-/// Writes whether two values are equal, followed by a note if `!=` or a copy says otherwise.
-pub(crate) fn write_equal<W: fmt::Write, T: Eq + Copy + Drop>(
-    f: &mut Formatter<W>,
-    first: Option<T>,
-    second: Option<T>,
-) -> fmt::Result {
-    let Some((first, second)) = first.zip(second) else {
-        return no_result(f);
-    };
-    let (copy, other) = (first, second);
-    let is_equal = first == second;
-    let is_agreed = all_agree(&[
-        (second == first) == is_equal,
-        (copy != other) != is_equal,
-        copy == first,
-        other == second,
-    ]);
-    write_result(f, is_equal, is_agreed)
-}
-
 /// Returns the text between quotes.
 pub(crate) fn unquoted(text: &str) -> &str {
     let end = text.len().saturating_sub(1);
