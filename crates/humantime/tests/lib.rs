@@ -1,13 +1,16 @@
-//! No call allocates: the rows hold, and the program answers, where memory is refused. These tests are run and not proved.
+//! No call allocates: the rows hold, the program answers and `Debug` succeeds where memory is refused. These tests are run and not proved.
 #![tactic(auto)]
 
 pub(crate) mod support;
 
 use crate::support::{assert_nothing_allocated, is_written, refuse_memory};
-use humantime::{canonical, parse_duration};
+use humantime::{
+    Date, Duration, StdDuration, Timestamp, UNIX_EPOCH, canonical, format_duration, format_rfc3339,
+    parse_duration, spans,
+};
 use humantime_cli::run;
 use humantime_tests_rows::{Row, TABLE, unescape};
-use std::io::Cursor;
+use std::io::{self, Cursor, Write};
 use std::process::Abort;
 use std::str;
 
@@ -59,4 +62,17 @@ fn is_answered(row: &str) -> bool {
 #[test]
 fn the_program_answers_where_memory_is_refused(rt: HostRuntime) {
     assert_rows(&rt, "duration \"", is_answered);
+}
+
+/// `Debug` has no text that is promised. Rows are written by that of the errors; here are the other types.
+#[test]
+fn debug_succeeds_where_memory_is_refused(rt: HostRuntime) {
+    refuse_memory(&rt, 0);
+    let most = StdDuration::MAX;
+    let durations = (most, Duration::new(most), format_duration(most), spans("1.5h").next());
+    let later = UNIX_EPOCH.checked_add(StdDuration::from_secs(5)).unwrap_or(UNIX_EPOCH);
+    let moments = (later, Timestamp::from(later), format_rfc3339(later), UNIX_EPOCH.duration_since(later));
+    let date = Date { year: 2000, month: 2, day: 29 };
+    assert!(rt; write!(io::sink(), "{durations:?} {moments:?} {date:?}").is_ok());
+    assert_nothing_allocated(&rt);
 }
