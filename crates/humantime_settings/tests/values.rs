@@ -1,10 +1,11 @@
 //! Durations and timestamps as text in JSON and TOML.
 
-use crate::moment;
+use crate::support::moment;
 use humantime::{Duration, StdDuration, SystemTime, Timestamp};
 use humantime_settings::{AsText, from_json, from_toml, to_json, to_toml};
-use serde::{Deserialize, Serialize};
+use serde::{Deserialize, DeserializeOwned, Serialize};
 use std::collections::BTreeMap;
+use std::fmt::Debug;
 use std::process::Abort;
 use std::test::Fail;
 use std::time;
@@ -43,25 +44,41 @@ fn each_value(rt: &impl Abort) -> Values {
     }
 }
 
+/// Asserts that the value is read from each of these texts in JSON, and written as the first one.
+fn assert_json<'a, T>(rt: &(impl Abort + AllocGlobal), value: &T, texts: &[&'a str]) -> Result<(), Fail>
+where
+    T: Debug + Drop + PartialEq + Serialize + Deserialize<'a>,
+{
+    for text in texts {
+        assert_eq!(rt; &from_json::<T>(rt.alloc(), text)?, value);
+    }
+    assert_eq!(rt; Some(&serde_json::to_string(rt.alloc(), value)?.as_str()), texts.first());
+    Ok(())
+}
+
+/// Does the same in TOML.
+fn assert_toml<T>(rt: &(impl Abort + AllocGlobal), value: &T, texts: &[&str]) -> Result<(), Fail>
+where
+    T: Debug + Drop + PartialEq + Serialize + DeserializeOwned,
+{
+    for text in texts {
+        assert_eq!(rt; &from_toml::<T>(rt.alloc(), text)?, value);
+    }
+    assert_eq!(rt; Some(&to_toml(rt.alloc(), value)?.as_str()), texts.first());
+    Ok(())
+}
+
 #[test]
 fn values_are_read_and_written(rt: HostRuntime) -> Result<(), Fail> {
-    let (alloc, values) = (rt.alloc(), each_value(&rt));
-    for text in &[
+    let values = each_value(&rt);
+    let json = [
         VALUES_JSON,
         r#" { "pause" : "12us", "until":"2018-02-14 00:28:07.5", "every":"1d12h", "since":"2018-02-14 00:28:07", "wait":"2h 37min" } "#,
         r#"{"wait":"2\u0068 37m","since":"2018-02-14\u002000:28:07","every":"36h","until":"2018-02-14T00:28:07.5Z","pause":"12µs"}"#,
-    ] {
-        assert_eq!(rt; from_json::<Values>(alloc, text)?, values);
-    }
-    for text in &[
-        VALUES_TOML,
-        "pause='12us'\nuntil='2018-02-14 00:28:07.5'\nevery='1d12h'\nsince='2018-02-14 00:28:07'\nwait=\"2\\u0068 37min\"",
-    ] {
-        assert_eq!(rt; from_toml::<Values>(alloc, text)?, values);
-    }
-    assert_eq!(rt; serde_json::to_string(alloc, &values)?.as_str(), VALUES_JSON);
-    assert_eq!(rt; to_toml(alloc, &values)?.as_str(), VALUES_TOML);
-    Ok(())
+    ];
+    assert_json(&rt, &values, &json)?;
+    let toml = "pause='12us'\nuntil='2018-02-14 00:28:07.5'\nevery='1d12h'\nsince='2018-02-14 00:28:07'\nwait=\"2\\u0068 37min\"";
+    assert_toml(&rt, &values, &[VALUES_TOML, toml])
 }
 
 #[derive(Debug, Drop, PartialEq, Serialize, Deserialize)]
@@ -84,28 +101,13 @@ fn no_value() -> Optional {
 
 #[test]
 fn optional_values_are_read_and_written(rt: HostRuntime) -> Result<(), Fail> {
-    let alloc = rt.alloc();
-    let none = no_value();
     let nulls = r#"{"wait":null,"since":null,"every":null,"until":null,"pause":null}"#;
-    for text in &["{}", nulls] {
-        assert_eq!(rt; from_json::<Optional>(alloc, text)?, none);
-    }
-    assert_eq!(rt; serde_json::to_string(alloc, &none)?.as_str(), nulls);
-    assert_eq!(rt; from_toml::<Optional>(alloc, "")?, none);
-    assert_eq!(rt; to_toml(alloc, &none)?.as_str(), "");
-    let all = each_value(&rt);
-    let some = Optional {
-        wait: Some(all.wait),
-        since: Some(all.since),
-        every: Some(all.every),
-        until: Some(all.until),
-        pause: Some(all.pause),
-    };
-    assert_eq!(rt; from_json::<Optional>(alloc, VALUES_JSON)?, some);
-    assert_eq!(rt; serde_json::to_string(alloc, &some)?.as_str(), VALUES_JSON);
-    assert_eq!(rt; from_toml::<Optional>(alloc, VALUES_TOML)?, some);
-    assert_eq!(rt; to_toml(alloc, &some)?.as_str(), VALUES_TOML);
-    Ok(())
+    assert_json(&rt, &no_value(), &[nulls, "{}"])?;
+    assert_toml(&rt, &no_value(), &[""])?;
+    let Values { wait, since, every, until, pause } = each_value(&rt);
+    let some = Optional { wait: Some(wait), since: Some(since), every: Some(every), until: Some(until), pause: Some(pause) };
+    assert_json(&rt, &some, &[VALUES_JSON])?;
+    assert_toml(&rt, &some, &[VALUES_TOML])
 }
 
 #[derive(Debug, Drop, PartialEq, Serialize, Deserialize)]
@@ -118,21 +120,49 @@ pub struct Lists {
 
 #[test]
 fn lists_and_maps_are_read_and_written(rt: HostRuntime) -> Result<(), Fail> {
-    let alloc = rt.alloc();
-    let json =
-        r#"{"waits":["1s","1m 30s"],"ends":{"first":"1970-01-01T00:00:00Z","last":"1970-01-01T00:00:01Z"},"pauses":["2h",null]}"#;
-    let lists: Lists = from_json(alloc, json)?;
-    let waits = [AsText(StdDuration::from_secs(1)), AsText(StdDuration::from_secs(90))];
-    assert_eq!(rt; lists.waits.as_slice(), &waits[..]);
+    let json = r#"{"waits":["1s","1m 30s"],"ends":{"first":"1970-01-01T00:00:00Z","last":"1970-01-01T00:00:01Z"},"pauses":["2h",null]}"#;
+    let lists: Lists = from_json(rt.alloc(), json)?;
+    assert_eq!(rt; lists.waits.as_slice(), &[AsText(StdDuration::from_secs(1)), AsText(StdDuration::from_secs(90))][..]);
     assert_eq!(rt; lists.ends.get("last"), Some(&AsText(moment(&rt, 1, 0))));
-    let pauses = [AsText(Some(Duration::new(StdDuration::from_secs(7200)))), AsText(None)];
-    assert_eq!(rt; lists.pauses.as_slice(), &pauses[..]);
-    assert_eq!(rt; serde_json::to_string(alloc, &lists)?.as_str(), json);
-    let text =
-        "waits = [\"1s\", \"1m 30s\"]\npauses = []\n\n[ends]\nlast = \"1970-01-01T00:00:01Z\"\n";
-    let lists: Lists = from_toml(alloc, text)?;
+    assert_eq!(rt; lists.pauses.as_slice(), &[AsText(Some(Duration::new(StdDuration::from_secs(7200)))), AsText(None)][..]);
+    assert_json(&rt, &lists, &[json])?;
+    let toml = "waits = [\"1s\", \"1m 30s\"]\npauses = []\n\n[ends]\nlast = \"1970-01-01T00:00:01Z\"\n";
+    let lists: Lists = from_toml(rt.alloc(), toml)?;
     assert_eq!(rt; lists.waits.len(), 2);
-    assert_eq!(rt; from_toml::<Lists>(alloc, &to_toml(alloc, &lists)?)?, lists);
+    assert_eq!(rt; from_toml::<Lists>(rt.alloc(), &to_toml(rt.alloc(), &lists)?)?, lists);
+    Ok(())
+}
+
+#[derive(Debug, Drop, PartialEq, Serialize, Deserialize)]
+struct Plan {
+    #[serde(with = "humantime_settings")]
+    waits: Vec<StdDuration>,
+    #[serde(with = "humantime_settings")]
+    pauses: Vec<time::Duration>,
+    #[serde(default, with = "humantime_settings")]
+    runs: Vec<Timestamp>,
+    #[serde(default, with = "humantime_settings")]
+    ends: BTreeMap<String, SystemTime>,
+    #[serde(default, with = "humantime_settings")]
+    limits: BTreeMap<String, Duration>,
+}
+
+#[test]
+fn lists_and_maps_of_plain_values(rt: HostRuntime) -> Result<(), Fail> {
+    let alloc = rt.alloc();
+    let json = [
+        r#"{"waits":["1s","1m 30s"],"pauses":[],"runs":["1970-01-01T00:00:01Z"],"ends":{"a":"1970-01-01T00:00:02Z","b":"1970-01-01T00:00:01Z"},"limits":{}}"#,
+        // In any order and notation, with the last of two equal keys, and without what has a default.
+        r#"{"ends":{"b":"1970-01-01 00:00:01","a":"1970-01-01 00:00:01","a":"1970-01-01 00:00:02"},"pauses":[],"runs":["1970-01-01T00:00:01Z"],"waits":["1000ms","1.5min"]}"#,
+    ];
+    let plan: Plan = from_json(alloc, json[0])?;
+    assert_eq!(rt; plan.waits.as_slice(), &[StdDuration::from_secs(1), StdDuration::from_secs(90)][..]);
+    assert_eq!(rt; plan.runs.as_slice(), &[Timestamp::from(moment(&rt, 1, 0))][..]);
+    assert_eq!(rt; (plan.ends.len(), plan.ends.get("a")), (2, Some(&moment(&rt, 2, 0))));
+    assert_json(&rt, &plan, &json)?;
+    assert_eq!(rt; from_toml::<Plan>(alloc, &to_toml(alloc, &plan)?)?, plan);
+    let empty: Plan = from_toml(alloc, "waits = []\npauses = []\n")?;
+    assert_eq!(rt; to_json(alloc, &empty)?.as_str(), "{\n  \"waits\": [],\n  \"pauses\": [],\n  \"runs\": [],\n  \"ends\": {},\n  \"limits\": {}\n}");
     Ok(())
 }
 

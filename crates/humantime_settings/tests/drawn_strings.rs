@@ -1,11 +1,12 @@
 //! Drawn strings, in which each character is written in one of its ways: what is marked is what stands for the wrong bytes of the text.
 
-use crate::memory::drawn::Draw;
+use crate::drawn::Draw;
 use humantime::{StdDuration, SystemTime};
 use humantime_settings::{AsText, SettingsError, from_json, from_toml};
 use humantime_std::located::{parse_duration, parse_rfc3339_weak};
 use std::alloc::{AllocError, Global};
 use std::collections::BTreeMap;
+use std::process::Abort;
 use std::test::Fail;
 
 /// A kind of strings.
@@ -19,18 +20,8 @@ struct Kind {
     close: &'static str,
 }
 
-const KINDS: &[Kind] = &[
-    Kind { is_json: true, has_escapes: true, has_lines: false, open: "\"", close: "\"" },
-    Kind { is_json: true, has_escapes: true, has_lines: false, open: "\"", close: "\"" },
-    Kind { is_json: false, has_escapes: true, has_lines: false, open: "\"", close: "\"" },
-    Kind { is_json: false, has_escapes: false, has_lines: false, open: "'", close: "'" },
-    Kind { is_json: false, has_escapes: true, has_lines: true, open: "\"\"\"", close: "\"\"\"" },
-    Kind { is_json: false, has_escapes: true, has_lines: true, open: "\"\"\"\n", close: "\"\"\"" },
-    Kind { is_json: false, has_escapes: true, has_lines: true, open: "\"\"\"\r\n", close: "\"\"\"" },
-    Kind { is_json: false, has_escapes: false, has_lines: true, open: "'''", close: "'''" },
-    Kind { is_json: false, has_escapes: false, has_lines: true, open: "'''\n", close: "'''" },
-    Kind { is_json: false, has_escapes: false, has_lines: true, open: "'''\r\n", close: "'''" },
-];
+/// What is before the content, in the first two in JSON.
+const OPEN: [&str; 10] = ["\"", "\"", "\"", "'", "\"\"\"", "\"\"\"\n", "\"\"\"\r\n", "'''", "'''\n", "'''\r\n"];
 
 /// Parts of durations, most of them right, then wrong ones, and what may follow.
 const DURATIONS: [&[&str]; 4] = [
@@ -59,24 +50,23 @@ struct Piece {
 
 /// Puts a character as this kind of string can have it, or one that it can have in its place, which is returned.
 fn put_char(draw: &mut Draw, kind: Kind, c: char) -> Result<char, AllocError> {
-    let alloc = *draw.text.allocator();
-    let code = c as u32;
+    let (alloc, code) = (*draw.text.allocator(), c as u32);
+    let is_line = kind.has_lines && c == '\n';
     if !kind.has_escapes {
-        let c = if c == '\'' || c.is_control() && c != '\t' && !(kind.has_lines && c == '\n') { '?' } else { c };
+        let c = if c == '\'' || c.is_control() && c != '\t' && !is_line { '?' } else { c };
         draw.text.push(c)?;
         return Ok(c);
     }
-    let short = match c {
-        '\t' => "\\t",
-        '\n' => "\\n",
-        '"' => "\\\"",
-        '\\' => "\\\\",
-        '/' if kind.is_json => "\\/",
-        '\u{1b}' if !kind.is_json => "\\e",
-        _ => "",
+    let letter = match c {
+        '\t' => 't',
+        '\n' => 'n',
+        '"' | '\\' => c,
+        '/' if kind.is_json => c,
+        '\u{1b}' if !kind.is_json => 'e',
+        _ => ' ',
     };
-    let is_plain = !c.is_control() && c != '"' && c != '\\' || kind.has_lines && c == '\n';
-    let escape = match draw.below(5) {
+    let (way, is_plain) = (draw.below(5), is_line || !c.is_control() && c != '"' && c != '\\');
+    let escape = match way {
         0 if code < 0x1_0000 => format!(in alloc; "\\u{code:04x}")?,
         1 if code < 0x1_0000 => format!(in alloc; "\\u{code:04X}")?,
         0 | 1 if kind.is_json => {
@@ -85,12 +75,9 @@ fn put_char(draw: &mut Draw, kind: Kind, c: char) -> Result<char, AllocError> {
         }
         0 | 1 => format!(in alloc; "\\U{code:08X}")?,
         2 if !kind.is_json && code < 0x100 => format!(in alloc; "\\x{code:02x}")?,
-        _ if is_plain => {
-            draw.text.push(c)?;
-            return Ok(c);
-        }
-        _ if short.is_empty() => format!(in alloc; "\\u{code:04x}")?,
-        _ => String::from_str(alloc, short)?,
+        _ if is_plain && (way == 4 || letter == ' ') => format!(in alloc; "{c}")?,
+        _ if letter == ' ' => format!(in alloc; "\\u{code:04x}")?,
+        _ => format!(in alloc; "\\{letter}")?,
     };
     draw.text.push_str(&escape)?;
     Ok(c)
@@ -102,7 +89,7 @@ fn put_blank(draw: &mut Draw, kind: Kind, text: &str, pieces: &mut Vec<Piece>) -
         return Ok(());
     }
     let start = draw.text.len();
-    draw.put(&["\\\n", "\\\r\n  ", "\\ \t\n\n \t\r\n"])?;
+    draw.one_of(&["\\\n", "\\\r\n  ", "\\ \t\n\n \t\r\n"])?;
     pieces.push(Piece { start, end: draw.text.len(), text_end: text.len() })?;
     Ok(())
 }
@@ -148,37 +135,47 @@ fn error_of(alloc: Global, kind: Kind, is_time: bool, document: &str) -> Option<
     }
 }
 
+/// Returns where the bytes of a text that are wrong begin and end.
+fn wrong_part(text: &str, is_time: bool) -> Option<(usize, usize)> {
+    if is_time {
+        return parse_rfc3339_weak(text).err().map(|error| (error.start, error.end));
+    }
+    parse_duration(text).err().map(|error| (error.start, error.end))
+}
+
+/// Draws a document with a string, and asserts that what is marked stands for the wrong bytes, or that it has no error.
+fn assert_marked(rt: &(impl Abort + AllocGlobal), seed: u64) -> Result<(), Fail> {
+    let mut draw = Draw::new(rt.alloc(), seed);
+    let at = draw.below(10) as usize;
+    let open = OPEN[at];
+    let kind = Kind { is_json: at < 2, has_escapes: open.starts_with('"'), has_lines: open.len() > 1, open, close: open.trim_end() };
+    let is_time = draw.below(2) == 0;
+    let (before, after) = if kind.is_json { ("{\n\t\"é\": ", "}") } else { ("# é\nwait = ", "\n") };
+    draw.text.push_str(before)?;
+    let (text, pieces) = put_string(&mut draw, kind, if is_time { &TIMESTAMPS } else { &DURATIONS })?;
+    assert_eq!(rt; decoded(rt.alloc(), kind, &draw.text[before.len()..])?, text);
+    let content_end = draw.text.len() - kind.close.len();
+    draw.text.push_str(after)?;
+    let error = error_of(rt.alloc(), kind, is_time, &draw.text);
+    let Some((start, end)) = wrong_part(&text, is_time) else {
+        assert!(rt; error.is_none(), "{}", draw.text);
+        return Ok(());
+    };
+    let first = pieces.iter().find(|piece| start < piece.text_end).map_or(content_end, |piece| piece.start);
+    let last = pieces.iter().find(|piece| start < end && end <= piece.text_end).map_or(first, |piece| piece.end);
+    // A mark ends with its line.
+    let part = draw.text[first..last].lines().next().unwrap_or("");
+    let Some(SettingsError::At(marked)) = error else {
+        panic!(rt; "{}", draw.text);
+    };
+    assert_eq!(rt; (marked.at, marked.marked.as_str()), (first, part), "{}", draw.text);
+    Ok(())
+}
+
 #[test]
 fn drawn_strings(rt: HostRuntime) -> Result<(), Fail> {
-    let alloc = rt.alloc();
-    for seed in 1..=600 {
-        let mut draw = Draw::new(alloc, seed * 0x9E37_79B9, 0);
-        let kind = *KINDS.get(draw.below(KINDS.len() as u64) as usize).ok_or("no kind")?;
-        let is_time = draw.below(2) == 0;
-        let (before, after) = if kind.is_json { ("{\n\t\"é\": ", "}") } else { ("# é\nwait = ", "\n") };
-        draw.text.push_str(before)?;
-        let (text, pieces) = put_string(&mut draw, kind, if is_time { &TIMESTAMPS } else { &DURATIONS })?;
-        let string = draw.text.get(before.len()..).unwrap_or("");
-        assert_eq!(rt; decoded(alloc, kind, string)?, text);
-        let content_end = draw.text.len() - kind.close.len();
-        draw.text.push_str(after)?;
-        let wrong = if is_time {
-            parse_rfc3339_weak(&text).err().map(|error| (error.start, error.end))
-        } else {
-            parse_duration(&text).err().map(|error| (error.start, error.end))
-        };
-        let Some((start, end)) = wrong else {
-            assert!(rt; error_of(alloc, kind, is_time, &draw.text).is_none(), "{}", draw.text);
-            continue;
-        };
-        let first = pieces.iter().find(|piece| start < piece.text_end).map_or(content_end, |piece| piece.start);
-        let last = pieces.iter().find(|piece| start < end && end <= piece.text_end).map_or(first, |piece| piece.end);
-        // A mark ends with its line.
-        let part = draw.text.get(first..last).unwrap_or("?").lines().next().unwrap_or("");
-        let Some(SettingsError::At(marked)) = error_of(alloc, kind, is_time, &draw.text) else {
-            panic!(rt; "{}", draw.text);
-        };
-        assert_eq!(rt; (marked.at, marked.marked.as_str()), (first, part), "{}", draw.text);
+    for seed in 1..=1500 {
+        assert_marked(&rt, seed * 0x9E37_79B9)?;
     }
     Ok(())
 }

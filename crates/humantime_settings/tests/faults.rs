@@ -1,0 +1,295 @@
+//! Documents with errors, in JSON and in TOML.
+
+use crate::support::{Case, Read, assert_error, assert_errors};
+use humantime::{Duration, StdDuration, SystemTime, Timestamp};
+use humantime_settings::{AsText, SettingsError, from_json, from_toml};
+use serde::Deserialize;
+use std::alloc::Global;
+use std::collections::BTreeMap;
+use std::test::Fail;
+
+#[derive(Debug, Drop, Deserialize)]
+#[serde(deny_unknown_fields)]
+struct Job {
+    name: String,
+    #[serde(with = "humantime_settings")]
+    every: StdDuration,
+    #[serde(with = "humantime_settings")]
+    since: SystemTime,
+    #[serde(default, with = "humantime_settings")]
+    keep: Option<Duration>,
+}
+
+#[derive(Debug, Drop, Deserialize)]
+struct Jobs {
+    #[serde(with = "humantime_settings")]
+    timeout: StdDuration,
+    job: Job,
+    #[serde(default)]
+    more: Vec<Job>,
+    #[serde(default)]
+    pauses: Vec<AsText<StdDuration>>,
+    #[serde(default)]
+    days: BTreeMap<String, AsText<SystemTime>>,
+    #[serde(default, with = "humantime_settings")]
+    waits: Vec<StdDuration>,
+    #[serde(default, with = "humantime_settings")]
+    ends: BTreeMap<String, SystemTime>,
+    #[serde(default, with = "humantime_settings")]
+    limits: BTreeMap<String, Duration>,
+    #[serde(default, with = "humantime_settings")]
+    zone: Option<Timestamp>,
+    #[serde(default)]
+    counts: Vec<i64>,
+    #[serde(default)]
+    pairs: Vec<Vec<i64>>,
+    #[serde(default, rename = "more.every")]
+    note: String,
+}
+
+fn json(alloc: Global, text: &str) -> Option<SettingsError> {
+    from_json::<Jobs>(alloc, text).err()
+}
+
+fn toml(alloc: Global, text: &str) -> Option<SettingsError> {
+    from_toml::<Jobs>(alloc, text).err()
+}
+
+const READS: [Read; 2] = [json, toml];
+
+const JSON_JOB: &str = r#"{"name": "é ", "every": "5us", "since": "2018-02-14T00:28:07Z"}"#;
+
+const JSON: &[Case] = &[
+    // The first field, the last one, and one of an object inside.
+    (r#"{"timeout":"2h 7","job":{"name":"é","every":"1d","since":"2018-02-14T00:28:07Z"}}"#, 1, 17, "", "time unit needed, for example 7sec or 7ms"),
+    ("{\n  \"timeout\": \"2h\",\n  \"job\": JOB,\n\t\"zone\": \"\"\n}", 4, 11, "", "timestamp format is invalid"),
+    // Characters of several bytes before the fault: its offset in the message counts bytes from the value, and its column characters.
+    ("{\n  \"timeout\": \"2h\",\n  \"job\": {\"name\": \"é 5µs x\", \"every\": \"5µs x\", \"since\": \"2018-02-14T00:28:07Z\"}\n}", 3, 44, "x", "expected number at 5"),
+    // A timestamp, whose day is out of range.
+    ("{\n  \"timeout\": \"2h\",\n  \"job\": {\"name\": \"é \", \"every\": \"5us\", \"since\": \"2018-02-30T00:28:07Z\"}\n}", 3, 59, "30", "numeric component is out of range"),
+    // What is no text, an escape, and an item of a list or a map.
+    ("{\n  \"timeout\": 2,\n  \"job\": JOB\n}", 2, 14, "", "expected a duration in quotes"),
+    ("{\n  \"timeout\":\n  [\"2h\"],\n  \"job\": JOB\n}", 3, 3, "", "expected a duration in quotes"),
+    ("{\n  \"timeout\": \"2h\",\n  \"job\": {\"name\": \"é \", \"every\": \"5us\", \"since\": \"2018-02-14T00:28:07Z\", \"keep\": \"\\u0031h\\t2 \\\"\"}\n}", 3, 94, "\\\"", "invalid character at 5"),
+    (r#"{"timeout":"2h","pauses":["1s","2s","1 é"],"job":{}}"#, 1, 40, "é", "invalid character at 2"),
+    (r#"{"timeout":"2h","days":{"a":"2018-02-14 00:28:07","b":"1h"}}"#, 1, 57, "h", "timestamp format is invalid"),
+    // An overflow, which is marked at its span; lines that end in CR LF; and an escape before the closing quote.
+    (r#"{"timeout":"1h 1.5ns"}"#, 1, 16, "1.5ns", "number is too large or cannot be represented without a lack of precision (values below 1ns are not supported)"),
+    ("{\r\n\r\n\r\n\r\n\"pauses\":[\"1s\",\"1h x\"]}", 5, 20, "x", "expected number at 3"),
+    ("{\"timeout\":\"1s \\\\\"}", 1, 16, "\\\\", "expected number at 3"),
+    // What is no text.
+    (r#"{"timeout":null}"#, 1, 12, "", "expected a duration in quotes"),
+    (r#"{"timeout":{"a":"1s"}}"#, 1, 12, "", "expected a duration in quotes"),
+    (r#"{"timeout":"2h","days":{"a":null}}"#, 1, 29, "", "expected a timestamp in quotes"),
+    (r#"{"timeout":"2h","zone":90}"#, 1, 24, "", "expected a timestamp in quotes"),
+    // Values of a wrong type for fields that are not of this crate.
+    (r#"{"timeout":"2h","counts":[1,true]}"#, 1, 29, "", "invalid type: boolean"),
+    (r#"{"timeout":"2h","counts":[1, null]}"#, 1, 30, "", "invalid type: null"),
+    (r#"{"timeout":"2h","counts":["2"]}"#, 1, 27, "", "invalid type: string"),
+    (r#"{"timeout":"2h","counts":[[2]]}"#, 1, 27, "", "invalid type: sequence"),
+    (r#"{"timeout":"2h","counts": {}}"#, 1, 27, "", "invalid type: map"),
+    (r#"{"timeout":"2h","pairs":[[1], 2]}"#, 1, 31, "", "invalid type: number"),
+    (r#"{"timeout":"2h","more.every":-7}"#, 1, 30, "", "invalid type: number"),
+    (r#"{"timeout":"2h","job":false}"#, 1, 23, "", "invalid type: boolean"),
+    // A number that does not fit, and a key that stands twice, which can have escapes.
+    (r#"{"counts":[1, 9223372036854775808 ]}"#, 1, 15, "", "invalid value: number `9223372036854775808`"),
+    ("{\"timeout\":\"2h\",\n \"timeout\" :\n\"2h\"}", 2, 2, "", "duplicate field `timeout`"),
+    ("{\"timeout\":\"2h\",\"time\\u006fut\":\"\\\"\"}", 1, 17, "", "duplicate field `timeout`"),
+    // What is missing, unknown or cut.
+    ("{\"timeout\":\"2h\",\n\"job\":{ \"nm\\u0061e\\n\":1}}", 2, 9, "", "unknown field `nmae\n`"),
+    ("{\n  \"timeout\": \"2h\",\n  \"job\": {\"name\": \"é\", \"every\": \"5us\"}\n}", 3, 38, "", "missing field `since`"),
+    ("{\"timeout\":\"2h\",\n\"job\":{\"nmae\":\"é\"}}", 2, 8, "", "unknown field `nmae`"),
+    (r#"{"timeout":"2h""#, 1, 15, "", "EOF while parsing"),
+    // Fields that are lists or maps, with a wrong item, or with what is no list and no map.
+    (r#"{"waits":["1s","2s 1~"]}"#, 1, 21, "~", "invalid character at 4"),
+    (r#"{"waits":["1s",2]}"#, 1, 16, "", "expected a duration in quotes"),
+    (r#"{"waits":["1s",null]}"#, 1, 16, "", "expected a duration in quotes"),
+    (r#"{"ends":{"a":1}}"#, 1, 14, "", "expected a timestamp in quotes"),
+    (r#"{"waits":"1s"}"#, 1, 10, "", "invalid type: string"),
+    // At most one byte.
+    ("", 1, 1, "", "EOF while parsing"),
+    ("{", 1, 1, "", "EOF while parsing"),
+    (r#"""#, 1, 1, "", "EOF while parsing"),
+    ("}", 1, 1, "", "invalid JSON"),
+    ("7", 1, 1, "", "invalid type: number"),
+];
+
+const TOML_JOB: &str = "[job]\nname = \"5µs x\"\nevery = \"1d\"\nsince = \"2018-02-14T00:28:07Z\"";
+
+const TOML: &[Case] = &[
+    // The first field, the last one, and one of a table inside, which comments and other fields repeat.
+    ("timeout = \"2h 7\"\nJOB", 1, 16, "", "time unit needed, for example 7sec or 7ms"),
+    ("timeout = '2h'\nJOB\nkeep = '1h 5µs x' # '1h'", 6, 16, "x", "expected number at 8"),
+    ("zone = '1h'\ntimeout = '2h'\nJOB", 1, 10, "h", "timestamp format is invalid"),
+    ("JOB", 1, 1, "", "missing field `timeout`"),
+    ("# every = '5µs x'\ntimeout = '2h'\nJOB\n[[more]]\nname = 'a'\nevery = '5µs x'\nsince = ''", 9, 14, "x", "expected number at 5"),
+    // The first of two tables is right, and the second is not.
+    ("timeout = '2h'\nJOB\n[[more]]\nname = 'a'\nevery = '1s'\nsince = '2018-02-14 00:28:07'\n[[more]]\nname = 'a'\nevery = '1s'\nsince = '2018-02-30 00:28:07'\n", 13, 18, "30", "numeric component is out of range"),
+    // Inline tables, dotted and quoted keys, and lists, on several lines.
+    ("timeout = '2h'\nmore = [\n  { name = 'b', # [\n    every = '1 s é' },\n]\nJOB", 4, 18, "é", "expected number at 4"),
+    ("\"timeout\" = '1~'\nJOB", 1, 15, "~", "invalid character at 1"),
+    ("timeout = '1s'\ndays.a = '2018-02-14 00:28:07'\ndays . \"b\" = '2018-02-14'\nJOB", 3, 25, "", "timestamp format is invalid"),
+    ("timeout = '1s'\npauses = [ '1s', # '1 é'\n '2s' , '1 é' ]\nJOB", 3, 12, "é", "invalid character at 2"),
+    ("timeout = \"\"\"\n1s\n2s x\"\"\"\nJOB", 3, 4, "x", "expected number at 6"),
+    // What is no text.
+    ("timeout = 30\nJOB", 1, 11, "", "expected a duration in quotes"),
+    ("timeout = [ '2h' ]\nJOB", 1, 11, "", "expected a duration in quotes"),
+    ("timeout = '2h'\npauses = [ '1s', 2, '3s' ]\nJOB", 2, 18, "", "expected a duration in quotes"),
+    ("timeout = '2h'\nzone = 2018-02-14 00:28:07Z # UTC\nJOB", 2, 8, "", "expected a timestamp in quotes"),
+    ("timeout = { a = '2h' }\nJOB", 1, 11, "", "expected a duration in quotes"),
+    ("timeout = '2h'\npauses = '1s'\nJOB", 2, 10, "", r#"invalid type: string "1s", expected a sequence"#),
+    ("timeout = '2h'\npauses = [ '1s', [ '2s' ], [ '3s' ] ]\nJOB", 2, 18, "", "expected a duration in quotes"),
+    ("timeout = '2h'\nJOB\n[[pauses]]\na = '1s'\n", 6, 1, "", "expected a duration in quotes"),
+    // A number that is too large: the whole text is marked.
+    ("timeout = '1.5ns'\nJOB", 1, 12, "1.5ns", "number is too large or cannot be represented without a lack of precision (values below 1ns are not supported)"),
+    // Keys behind an array, an inline table, both in one another, and values that are no texts, with comments and in lines that end in CR LF.
+    ("timeout = '1s'\npauses = ['1s', '2s']\nzone = '1h'\nJOB", 3, 10, "h", "timestamp format is invalid"),
+    ("timeout = '1s'\ndays = { a = '2018-02-14 00:28:07' }\nzone = '1h'\nJOB", 3, 10, "h", "timestamp format is invalid"),
+    ("more = []\nx = [[1, 2], [{ y = 3 }]]\ntimeout = '1x'\nJOB", 3, 13, "x", r#"unknown time unit "x", supported units: ns, us/µs, ms, sec, min, hours, days, weeks, months, years (and few variations)"#),
+    ("x = 1 # y, ['\ny = { a = 1.5, b = true } # ]\nz = [1, 2] # {\ntimeout = '1~'\nJOB", 4, 13, "~", "invalid character at 1"),
+    ("x = 7\r\ny = true\r\ntimeout = '1~'\r\nJOB", 3, 13, "~", "invalid character at 1"),
+    // A header with blanks, a quoted key and a comment, and one behind tables whose last keys are the same.
+    ("timeout = '1s'\nJOB\n[ \t\"days\" ] # days\na = '1h'\n", 7, 7, "h", "timestamp format is invalid"),
+    ("timeout = '1s'\nJOB\n[x.job]\nevery = '1~'\n[x.days]\na = '1h'\n[days]\na = '2h'\n", 11, 7, "h", "timestamp format is invalid"),
+    // Items of one list, of different types: the first of the type that the error names.
+    ("timeout = '2h'\ncounts = [ 1, true, 2.5 ]\nJOB", 2, 15, "", "invalid type: boolean `true`, expected an integer"),
+    ("timeout = '2h'\ncounts = [ 1, 2.5, true ]\nJOB", 2, 15, "", "invalid type: floating point `2.5`, expected an integer"),
+    ("timeout = '2h'\ncounts = [ 1, { a = 1 } ]\nJOB", 2, 15, "", "invalid type: map, expected an integer"),
+    ("timeout = '2h'\ncounts = [ 1, 1979-05-27 ]\nJOB", 2, 15, "", "invalid type: map, expected an integer"),
+    // An item that is an array of the wrong type, and not the array that it is in; with the same number where it is right.
+    ("timeout = '2h'\ncounts = [1, [2]]\nJOB", 2, 14, "", "invalid type: sequence, expected an integer"),
+    ("timeout = '2h'\ncounts = [1, [[2], 3], [4]]\nJOB", 2, 14, "", "invalid type: sequence, expected an integer"),
+    ("timeout = '2h'\npairs = [[1], [1, 2], [[1], 2], [[3]]]\nJOB", 2, 24, "", "invalid type: sequence, expected an integer"),
+    ("timeout = '2h'\npairs = [[1], 1, [true]]\nJOB", 2, 15, "", "invalid type: integer `1`, expected a sequence"),
+    ("timeout = '2h'\ncounts = [0x1F, +1_0, -2, 9_9.5]\nJOB", 2, 27, "", "invalid type: floating point `99.5`, expected an integer"),
+    // Two values whose keys have the same text: the one that has the error.
+    ("timeout = '2h'\n'more.every' = 'x'\nJOB\n[[more]]\nname = 'a'\nevery = '5 é'\nsince = '2018-02-14 00:28:07'\n", 9, 12, "é", "invalid character at 2"),
+    // Keys whose texts are the same without the dot.
+    ("time.out = '1~'\ntimeout = '1~'\nJOB", 2, 13, "~", "invalid character at 1"),
+    // A fault behind escapes.
+    ("timeout = \"\\u0031d\\t2 ~\"\nJOB", 1, 23, "~", "invalid character at 5"),
+    // What is unknown is marked at its key, and what is missing where its table begins: the first one that has no such key.
+    ("timeout = '2h'\nJOB\nnmae = 'a'\n", 6, 1, "", "unknown field `nmae`"),
+    ("timeout = '2h'\nJOB\n[[more]]\nname = 'a'\nevery = '1s'\n", 6, 1, "", "missing field `since`"),
+    // Documents that TOML rejects, and one with a byte order mark.
+    ("timeout = \"2h\nJOB", 1, 14, "", "invalid string"),
+    ("timeout = '2h'\ntimeout = '2h'\nJOB", 2, 1, "", "duplicate key"),
+    ("\u{feff}# a comment\ntimeout = '1h x'\nJOB", 2, 15, "x", "expected number at 3"),
+    // Fields that are lists or maps, with a wrong item, or with what is no map.
+    ("waits = ['1s', '2s 1~']", 1, 21, "~", "invalid character at 4"),
+    ("waits = ['1s', 2]", 1, 16, "", "expected a duration in quotes"),
+    ("waits = []\n[limits]\na = '1s'\nb = '1~'\n", 4, 7, "~", "invalid character at 1"),
+    ("[limits]\na.b = '1s'\n", 2, 1, "", "expected a duration in quotes"),
+    ("limits = ['1s']", 1, 10, "", "invalid type: sequence, expected a map"),
+    // At most one byte.
+    ("", 1, 1, "", "missing field `timeout`"),
+    ("\n", 1, 1, "", "missing field `timeout`"),
+    ("#", 1, 1, "", "missing field `timeout`"),
+];
+
+#[test]
+fn errors_in_json(rt: HostRuntime) -> Result<(), Fail> {
+    assert_errors(&rt, json, JSON_JOB, JSON)
+}
+
+#[test]
+fn errors_in_toml(rt: HostRuntime) -> Result<(), Fail> {
+    assert_errors(&rt, toml, TOML_JOB, TOML)
+}
+
+/// Documents with what is printed of their errors, first those in JSON.
+const PRINTED: [&[(&str, &str)]; 2] = [
+    &[
+        ("{\n  \"timeout\": \"10moons\"\n}", "line 2, column 17: unknown time unit \"moons\", supported units: ns, us/µs, ms, sec, min, hours, days, weeks, months, years (and few variations)\n  \"timeout\": \"10moons\"\n                ^^^^^"),
+        // Control characters but tabs are escapes, in the line and in the message.
+        ("{\"\u{1b}[2J\t\u{9b}é\": \u{7f}", "line 1, column 2: invalid JSON\n{\"\\u{1b}[2J\t\\u{9b}é\": \\u{7f}\n ^"),
+        ("{\"timeout\": \"1 \u{9b}x\u{9b}\"}", "line 1, column 16: invalid character at 2\n{\"timeout\": \"1 \\u{9b}x\\u{9b}\"}\n               ^^^^^^"),
+        ("{\"\u{85}\": 1, \"timeout\": \"1x\\u001b\"}", "line 1, column 24: invalid character at 2\n{\"\\u{85}\": 1, \"timeout\": \"1x\\u001b\"}\n                            ^^^^^^"),
+    ],
+    &[
+        ("\ttimeout = 'é 10moons'", "line 1, column 13: expected number at 0\n\ttimeout = 'é 10moons'\n\t           ^"),
+        ("# µ\r\ntimeout = '1x 2'\r\n", "line 2, column 13: unknown time unit \"x\", supported units: ns, us/µs, ms, sec, min, hours, days, weeks, months, years (and few variations)\ntimeout = '1x 2'\n            ^"),
+        // Only the carriage return is cut off the line.
+        ("timeout = '1~' \t\r\n", "line 1, column 13: invalid character at 1\ntimeout = '1~' \t\n            ^"),
+    ],
+];
+
+#[test]
+fn errors_are_printed(rt: HostRuntime) -> Result<(), Fail> {
+    let alloc = rt.alloc();
+    for (cases, read) in PRINTED.iter().zip(READS) {
+        for (text, printed) in *cases {
+            let error = read(alloc, text).expect(&rt, "read");
+            assert_eq!(rt; error.to_string(alloc)?.as_str(), *printed);
+        }
+    }
+    let whole = SettingsError::Whole(String::from_str(alloc, "a\tb\u{1b}\n")?);
+    assert_eq!(rt; whole.to_string(alloc)?.as_str(), "a\tb\\u{1b}\\u{a}");
+    assert_eq!(rt; SettingsError::OutOfMemory.to_string(alloc)?.as_str(), "out of memory");
+    // A line of 500 bytes is shown, and a longer one is not.
+    for (count, has_line) in [(486, true), (487, false)] {
+        let spaces = " ".repeat(alloc, count)?;
+        let error = toml(alloc, &format!(in alloc; "timeout = '{spaces}1~'")?).expect(&rt, "read");
+        assert_eq!(rt; error.to_string(alloc)?.contains("\n"), has_line);
+    }
+    Ok(())
+}
+
+#[test]
+fn each_byte_alone_is_an_error(rt: HostRuntime) -> Result<(), Fail> {
+    for byte in 0..0x80_u8 {
+        let text = format!(in rt.alloc(); "{}", char::from(byte))?;
+        for read in READS {
+            let Some(SettingsError::At(fault)) = read(rt.alloc(), &text) else {
+                panic!(rt; "{text:?}");
+            };
+            assert!(rt; fault.at <= 1 && fault.line <= 2 && fault.column() <= 2, "{text:?}: {fault:?}");
+        }
+    }
+    Ok(())
+}
+
+#[test]
+fn documents_end_in_a_string(rt: HostRuntime) -> Result<(), Fail> {
+    // In JSON the string is marked where it begins, and in TOML where it should end.
+    let text = "{\"timeout\":\"2h \\u0031s é\"";
+    for (end, _) in text.char_indices().skip(12) {
+        assert_error(&rt, json, &text[..end], (1, 12, "", "EOF while parsing"))?;
+    }
+    let text = "timeout = '2h é'";
+    for (at, (end, _)) in text.char_indices().enumerate().skip(11) {
+        assert_error(&rt, toml, &text[..end], (1, at + 1, "", "invalid string"))?;
+    }
+    Ok(())
+}
+
+#[test]
+fn arrays_in_one_another(rt: HostRuntime) -> Result<(), Fail> {
+    let alloc = rt.alloc();
+    // The object and 126 arrays are passed, and no more.
+    for (count, message) in [(126, "expected a duration in quotes"), (127, "invalid JSON")] {
+        let (open, close) = ("[".repeat(alloc, count)?, "]".repeat(alloc, count)?);
+        let error = json(alloc, &format!(in alloc; "{{\"x\":{open}{close},\"timeout\":1}}")?);
+        assert_eq!(rt; error.expect(&rt, "read").message(), message);
+    }
+    // The list is right, and its item is not, however many are in it. At 80 the document is rejected.
+    let (of_item, of_all) = ("expected a duration in quotes", "cannot recurse further; max recursion depth met");
+    for (count, column, message) in [(2, 11, of_item), (79, 11, of_item), (81, 90, of_all)] {
+        let (open, close) = ("[".repeat(alloc, count)?, "]".repeat(alloc, count)?);
+        let text = format!(in alloc; "timeout = '1s'\npauses = {open}{close}\n{TOML_JOB}")?;
+        assert_error(&rt, toml, &text, (2, column, "", message))?;
+    }
+    Ok(())
+}
+
+#[test]
+fn errors_behind_much_else(rt: HostRuntime) -> Result<(), Fail> {
+    let alloc = rt.alloc();
+    let (tabs, others) = ("\\t".repeat(alloc, 20_000)?, "'1s', ".repeat(alloc, 5_000)?);
+    let text = format!(in alloc; "{{\"timeout\":\"{tabs}1~\"}}")?;
+    assert_error(&rt, json, &text, (1, 40_014, "~", "invalid character at 20001"))?;
+    let text = format!(in alloc; "timeout = \"{tabs}1~\"")?;
+    assert_error(&rt, toml, &text, (1, 40_013, "~", "invalid character at 20001"))?;
+    let text = format!(in alloc; "timeout = '1s'\npauses = [{others}'1~']\n{TOML_JOB}")?;
+    assert_error(&rt, toml, &text, (2, 30_013, "~", "invalid character at 1"))
+}

@@ -1,0 +1,130 @@
+//! Faults in the keys of a TOML document, and in tables that keys make.
+
+use crate::support::{Case, assert_error, assert_errors};
+use humantime::StdDuration;
+use humantime_settings::{AsText, SettingsError, from_toml};
+use serde::Deserialize;
+use std::alloc::Global;
+use std::collections::BTreeMap;
+use std::test::Fail;
+
+type Wait = AsText<StdDuration>;
+
+#[derive(Debug, Drop, Deserialize)]
+struct Part {
+    #[serde(with = "humantime_settings")]
+    every: StdDuration,
+    #[serde(default)]
+    name: String,
+}
+
+#[derive(Debug, Drop, Deserialize)]
+struct Outer {
+    part: Part,
+}
+
+#[derive(Debug, Drop, Deserialize)]
+enum Mode {
+    Fast,
+    Slow(u32),
+}
+
+#[derive(Debug, Drop, Deserialize)]
+#[serde(untagged)]
+enum Either {
+    Count(u32),
+    Wait(Wait),
+}
+
+#[derive(Debug, Drop, Deserialize)]
+#[serde(deny_unknown_fields)]
+struct Whole {
+    #[serde(default)]
+    counts: BTreeMap<Wait, u32>,
+    #[serde(default)]
+    waits: BTreeMap<Wait, Wait>,
+    #[serde(default)]
+    texts: BTreeMap<String, Wait>,
+    part: Option<Part>,
+    #[serde(default)]
+    outers: Vec<Outer>,
+    mode: Option<Mode>,
+    #[serde(default)]
+    modes: Vec<Mode>,
+    wait: Option<Wait>,
+    pair: Option<(u32, u32)>,
+    either: Option<Either>,
+    #[serde(default)]
+    eithers: Vec<Either>,
+}
+
+fn read(alloc: Global, text: &str) -> Option<SettingsError> {
+    from_toml::<Whole>(alloc, text).err()
+}
+
+const KEYS: &[Case] = &[
+    // The key of a map is marked where the fault is in it: in quotes, bare, behind a dot, and as the key of a header.
+    ("[counts]\n'2s' = 1\n'1s ~' = 1\n", 3, 5, "~", "expected number at 3"),
+    ("counts = { 10 = 1 }", 1, 14, "", "time unit needed, for example 10sec or 10ms"),
+    ("counts.1s = 1\ncounts.'~' = 1", 2, 9, "~", "expected number at 0"),
+    ("[ counts . '1~' ]\n", 1, 14, "~", "invalid character at 1"),
+    // A key that would be no duration, and keys whose text is the same.
+    ("texts.x = '~'", 1, 12, "~", "expected number at 0"),
+    ("'part.every' = 1", 1, 1, "", "unknown field `part.every`"),
+    // Of a key and its value, the one that is read as a duration. If both are, the key is read first.
+    ("texts = { '1~' = '1~' }", 1, 20, "~", "invalid character at 1"),
+    ("waits = { '1~' = '1~' }", 1, 13, "~", "invalid character at 1"),
+    ("waits = { '1~' = '1s', '1s' = '1~' }", 1, 33, "~", "invalid character at 1"),
+    // A table that lacks a key begins at the first key that makes it, or at its header behind that.
+    ("wait = '1s'\npart.name = 'a'\npart.more = 1\n", 2, 1, "", "missing field `every`"),
+    ("[part.more]\n[part.most]\n", 1, 2, "", "missing field `every`"),
+    ("[part.more]\n[part]\nname = 'a'\n", 2, 1, "", "missing field `every`"),
+    ("[[outers]]\npart.name = 'a'\npart.every = '1s'\n[[outers]]\npart.name = 'b'\n", 5, 1, "", "missing field `every`"),
+    ("[[outers]]\npart.name = 'a'\n[[outers]]\npart.every = '1s'\n", 2, 1, "", "missing field `every`"),
+    ("outers = [{ part.every = '1s' }, { part.name = 'b', part.x = 1 }]", 1, 36, "", "missing field `every`"),
+    ("outers = [{ part.every = '1s', part.name = 'b' }, { x = 1 }]", 1, 51, "", "missing field `part`"),
+    // The front part of a key is marked where a table is wrong, or unknown.
+    ("wait.x = 1\nwait.y = 2\n", 1, 1, "", "expected a duration in quotes"),
+    ("[wait.x]\n", 1, 2, "", "expected a duration in quotes"),
+    ("part.every.x = 1\n", 1, 6, "", "expected a duration in quotes"),
+    ("wait = '1s'\nwiat.x = 1\n", 2, 1, "", "unknown field `wiat`"),
+    ("[wiat.x]\n", 1, 2, "", "unknown field `wiat`"),
+    ("[wiat]\n", 1, 1, "", "unknown field `wiat`"),
+    // The name of a variant is marked as a string and as a key.
+    ("mode = 'Slwo'", 1, 8, "", "unknown variant `Slwo`"),
+    ("mode = { Slwo = 1 }", 1, 10, "", "unknown variant `Slwo`"),
+    ("mode.Slwo = 1", 1, 6, "", "unknown variant `Slwo`"),
+    ("[mode]\nSlwo = 1", 2, 1, "", "unknown variant `Slwo`"),
+    ("modes = ['Fast', 'Slwo', 'Slwo']", 1, 18, "", "unknown variant `Slwo`"),
+    ("modes = ['Fast', 'Slwo']", 1, 18, "", "unknown variant `Slwo`"),
+    ("modes = [{ Slow = 1 }, { Slwo = 2 }, { Slwo = 3 }]", 1, 26, "", "unknown variant `Slwo`"),
+    // Other errors are marked at the only place with their keys, and among several if other values in these places show it.
+    ("pair = [1]", 1, 8, "", "invalid length"),
+    ("pair = [1, 2, 3]", 1, 8, "", "invalid length"),
+    ("either = 'x'", 1, 1, "", "data did not match any variant of untagged enum"),
+    ("eithers = [1, 'x', 2]", 0, 0, "", "data did not match any variant of untagged enum in `eithers`"),
+];
+
+#[test]
+fn errors_of_keys(rt: HostRuntime) -> Result<(), Fail> {
+    assert_errors(&rt, read, "", KEYS)
+}
+
+#[test]
+fn keys_of_over_80_bytes(rt: HostRuntime) -> Result<(), Fail> {
+    // `texts.` and 74 bytes are named in full.
+    for count in [74, 75, 76, 200] {
+        let key = "k".repeat(rt.alloc(), count)?;
+        for (lines, line, column, marked, message) in [
+            ("K = '~'", 2, 5, "~", "expected number at 0"),
+            ("K = 5", 2, 4, "", "expected a duration in quotes"),
+            // Of two wrong values, the one whose key sorts first.
+            ("Kb = '~'\nKa = '~'\nKc = '~'", 3, 6, "~", "expected number at 0"),
+            ("Kb = 1\nKc = 2\nKa = 3", 4, 5, "", "expected a duration in quotes"),
+        ] {
+            let text = format!(in rt.alloc(); "[texts]\n{lines}")?.replace(rt.alloc(), "K", &key)?;
+            assert_error(&rt, read, &text, (line, count + column, marked, message))?;
+        }
+    }
+    Ok(())
+}
