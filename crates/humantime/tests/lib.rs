@@ -1,6 +1,7 @@
 //! No call allocates: the rows hold, the program answers and `Debug` succeeds where memory is refused. These tests are run and not proved.
 #![tactic(auto)]
 
+mod memory;
 pub(crate) mod support;
 
 use crate::support::{assert_nothing_allocated, is_written, refuse_memory};
