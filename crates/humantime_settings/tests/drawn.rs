@@ -5,6 +5,7 @@ use humantime_settings::{AsText, SettingsError, from_json, from_toml};
 use serde::Deserialize;
 use std::alloc::{AllocError, Global};
 use std::collections::BTreeMap;
+use std::ops::RangeInclusive;
 use std::process::Abort;
 use std::test::Fail;
 
@@ -255,8 +256,8 @@ fn drawn(alloc: Global, is_json: bool, seed: u64, wrong: u64) -> Result<(Draw, O
 }
 
 /// Asserts that the mark of each document is where its wrong value was put, and that it has no error without one.
-fn assert_marked(rt: &(impl Abort + AllocGlobal), is_json: bool) -> Result<(), Fail> {
-    for seed in 1..=150 {
+fn assert_marked(rt: &(impl Abort + AllocGlobal), is_json: bool, seeds: RangeInclusive<u64>) -> Result<(), Fail> {
+    for seed in seeds {
         let (right, error) = drawn(rt.alloc(), is_json, seed, 0)?;
         assert!(rt; error.is_none(), "{error:?} {}", right.text);
         for wrong in 1..=right.count {
@@ -272,11 +273,21 @@ fn assert_marked(rt: &(impl Abort + AllocGlobal), is_json: bool) -> Result<(), F
 }
 
 #[test]
-fn drawn_documents_in_json(rt: HostRuntime) -> Result<(), Fail> {
-    assert_marked(&rt, true)
+fn documents_1_to_150_in_json(rt: HostRuntime) -> Result<(), Fail> {
+    assert_marked(&rt, true, 1..=150)
 }
 
 #[test]
-fn drawn_documents_in_toml(rt: HostRuntime) -> Result<(), Fail> {
-    assert_marked(&rt, false)
+fn documents_1_to_50_in_toml(rt: HostRuntime) -> Result<(), Fail> {
+    assert_marked(&rt, false, 1..=50)
+}
+
+#[test]
+fn documents_51_to_100_in_toml(rt: HostRuntime) -> Result<(), Fail> {
+    assert_marked(&rt, false, 51..=100)
+}
+
+#[test]
+fn documents_101_to_150_in_toml(rt: HostRuntime) -> Result<(), Fail> {
+    assert_marked(&rt, false, 101..=150)
 }
