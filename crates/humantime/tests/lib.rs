@@ -10,7 +10,7 @@ use humantime::{
     parse_duration, spans,
 };
 use humantime_cli::run;
-use humantime_tests_rows::{Row, TABLE, unescape};
+use humantime_rows::{Row, TABLE, unescape};
 use std::io::{self, Cursor, Write};
 use std::process::Abort;
 use std::str;

@@ -1,2 +1,2 @@
 -- What the callers of `run` conclude from its contract.
-pub mod WorkedRuns
+pub mod RunFacts

@@ -1,4 +1,4 @@
-use Rattle.humantime_cli.proofs.command.callers.WorkedRuns.{fault_printed}
+use Rattle.humantime_cli.proofs.command.callers.RunFacts.{fault_printed}
 use Rattle.humantime_cli.proofs.command.callers.explain_fault.Goals as goal
 
 pub returns : goal.returns

@@ -1,0 +1,14 @@
+pub mod CharacterFacts
+pub mod CountedDays
+pub mod DayFacts
+pub mod FirstDigits
+pub mod Kept
+pub mod LastErrors
+pub mod LengthFacts
+pub mod LimitFacts
+pub mod LongFractions
+pub mod MessageFacts
+pub mod OlderFacts
+pub mod Rounding
+pub mod TimestampFacts
+pub mod WordFacts

@@ -1,0 +1,111 @@
+//! Errors point into their texts, and become errors of the caller.
+
+ghost use Rattle.std.specs.Prelude.{◌≡◌, ◌++◌, ◌+ℤ◌, ◌<ℤ◌, ℕ, ℤ, pos, chars, codes, true, IfSome, IsErrAnd, IsOkAnd, List, Some, SomeIff, Ok, Err};
+ghost use Rattle.humantime.specs.declared.TimestampError.{TimestampError};
+ghost use Rattle.humantime.specs.declared.DurationError.{DurationError};
+ghost use Rattle.humantime.specs.Prelude.{Fault, PointsInto, duration_answer, fault_message, fault_of, moment_end, strict_answer, text_of, timestamp_message};
+ghost use Rattle.humantime_uses.specs.declared.errors.LineError.TheVariants.{Start, Limit};
+
+use humantime::{
+    Duration, DurationError, SpanIter, SystemTime, TimestampError, canonical, parse_duration,
+    parse_rfc3339,
+};
+use std::fmt;
+
+/// Returns `true` if an error points into its text: a character begins at its offset, or its unit is the slice between its offsets.
+fn is_in(error: DurationError<'_>, text: &str) -> bool
+    requires { PointsInto text.now error }
+    ensures { result ≡ true }
+{
+    match error {
+        DurationError::InvalidCharacter(at) | DurationError::NumberExpected(at) => {
+            !text[at..].is_empty()
+        }
+        DurationError::UnknownUnit {
+            start,
+            end,
+            unit,
+            ..
+        } => &text[start..end] == unit,
+        _ => true,
+    }
+}
+
+/// Returns `true` if the error of a text, if it has one, points into it, which it always does.
+pub fn points_into(text: &str) -> bool
+    ensures { result ≡ true }
+{
+    match Duration::from_str(text) {
+        Err(error) => is_in(error, text),
+        Ok(_) => true,
+    }
+}
+
+/// Returns `true` if the error of `canonical`, if there is one, points into its text, which it always does.
+pub fn canonical_points_into(text: &str) -> bool
+    ensures { result ≡ true }
+{
+    match canonical(text, &mut [0; 64]) {
+        Err(error) => is_in(error, text),
+        Ok(_) => true,
+    }
+}
+
+/// Returns the next item, if it is an error, which points into the text of the items.
+pub fn next_error<'a>(items: &mut SpanIter<'a>) -> Option<DurationError<'a>>
+    ensures error { IfSome result (PointsInto (text_of items.old)) }
+    ensures text { text_of items.new ≡ text_of items.old }
+{
+    match items.next() {
+        Some(Err(error)) => Some(error),
+        _ => None,
+    }
+}
+
+/// An error in a start or a time limit.
+#[derive(Debug, Drop)]
+pub enum LineError<'a> {
+    /// The start is not a valid timestamp.
+    Start(TimestampError),
+    /// The limit is not a valid duration.
+    Limit(DurationError<'a>),
+}
+
+impl fmt::Display for LineError<'_> {
+    ghost output = { λ e. Some (elim e as (λ _. List ℕ) [ Start error ↦ codes "start: " ++ timestamp_message error | Limit error ↦ codes "limit: " ++ fault_message (fault_of error) ]) };
+
+    fn fmt<W: fmt::Write>(&self, f: &mut fmt::Formatter<W>) -> fmt::Result {
+        match self {
+            LineError::Start(error) => write!(f, "start: {error}"),
+            LineError::Limit(error) => write!(f, "limit: {error}"),
+        }
+    }
+}
+
+impl std::error::Error for LineError<'_> {}
+
+impl From<TimestampError> for LineError<'_> {
+    ghost from_gives = { λ error e. e ≡ Start error };
+
+    fn from(error: TimestampError) -> Self {
+        LineError::Start(error)
+    }
+}
+
+impl<'a> From<DurationError<'a>> for LineError<'a> {
+    ghost from_gives = { λ error e. e ≡ Limit error };
+
+    fn from(error: DurationError<'a>) -> Self {
+        LineError::Limit(error)
+    }
+}
+
+/// Returns the moment at which a time limit after a start ends, or `None` if no `SystemTime` represents it.
+pub fn deadline<'a>(start: &str, limit: &'a str) -> Result<Option<SystemTime>, LineError<'a>>
+    ensures end { (t : ℤ) (v : ℕ) → strict_answer start.now ≡ Ok t → duration_answer (chars limit.now) ≡ Ok v → IsOkAnd result (λ end. SomeIff end ((t +ℤ pos v) <ℤ moment_end) (t +ℤ pos v)) }
+    ensures start { (e : TimestampError) → strict_answer start.now ≡ Err e → result ≡ Err (Start e) }
+    ensures limit { (t : ℤ) (e : Fault) → strict_answer start.now ≡ Ok t → duration_answer (chars limit.now) ≡ Err e → IsErrAnd result (λ error. elim error as (λ _. Type 0) [ Limit fault ↦ fault_of fault ≡ e | _ ↦ ⊥ ]) }
+{
+    let start = parse_rfc3339(start)?;
+    Ok(start.checked_add(parse_duration(limit)?))
+}

@@ -1,0 +1,21 @@
+//! Functions that use each public item of `humantime`, and those of `humantime_std` that take no clock.
+//!
+//! Each is proved by the contracts of public items alone, so a contract that says less leaves one of them unproved. The files
+//! `proofs/*Facts.antt` state the rules of the definitions once more, each with literals and for any value, so that a definition that
+//! changes at one value is refused.
+#![tactic(auto)]
+
+pub mod buffers;
+pub mod calendar;
+pub mod counted_calendar;
+pub mod displays;
+pub mod durations;
+pub mod errors;
+pub mod laws;
+pub mod limits;
+pub mod spans;
+pub mod std_limits;
+pub mod timestamps;
+pub mod values;
+pub mod witnesses;
+pub mod wrappers;
