@@ -123,7 +123,7 @@ fn type_of(document: &str) -> &'static str {
 
 /// Returns the document up to what can stand behind a number.
 fn front_word(document: &str) -> &str {
-    let end = document.find(|c| matches!(c, ',' | ']' | '}' | ' ' | '\t' | '\r' | '\n'));
+    let end = document.find([',', ']', '}', ' ', '\t', '\r', '\n']);
     document.get(..end.unwrap_or(document.len())).unwrap_or("")
 }
 
@@ -140,7 +140,7 @@ fn front_text(document: &str) -> &str {
 /// Returns the offset of the key of the value at an offset, or this offset if no key is before it.
 fn key_before(document: &str, at: usize) -> usize {
     let before = document.get(..at).unwrap_or("");
-    let key = before.trim_end_matches(|c| matches!(c, ':' | ' ' | '\t' | '\r' | '\n'));
+    let key = before.trim_end_matches([':', ' ', '\t', '\r', '\n']);
     for (quote, _) in key.rmatch_indices('"').skip(1) {
         if !ends_in_escape(key.get(..quote).unwrap_or("")) {
             return quote;

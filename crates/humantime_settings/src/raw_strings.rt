@@ -70,7 +70,7 @@ fn escape(escaped: &str) -> Piece {
         Some(b'u') => 4,
         Some(b'U') => 8,
         Some(b' ' | b'\t' | b'\r' | b'\n') => {
-            let after = escaped.trim_start_matches(|c| matches!(c, ' ' | '\t' | '\r' | '\n'));
+            let after = escaped.trim_start_matches([' ', '\t', '\r', '\n']);
             let blank = escaped.len().saturating_sub(after.len());
             return Piece {
                 raw: blank.saturating_add(1),

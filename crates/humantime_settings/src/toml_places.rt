@@ -27,7 +27,15 @@ impl Place<'_, '_> {
 
     /// Returns `true` for an item of an array, and for a header that adds one.
     pub(crate) fn is_item(&self) -> bool {
-        self.key.is_none() || self.value.is_none() && self.start.starts_with("[[")
+        match (self.key, self.value) {
+            (Some(_), None) => self.start.starts_with("[["),
+            (key, _) => key.is_none(),
+        }
+    }
+
+    /// Returns `true` if nothing is left of the keys that are looked for.
+    pub(crate) fn has_all_keys(&self) -> bool {
+        self.left.is_some_and(|left| left.is_empty())
     }
 }
 
@@ -69,6 +77,24 @@ impl<'a, 'k> Places<'a, 'k> {
         document: &'a str,
         keys: &'k str,
     ) -> Result<Places<'a, 'k>, AllocError> {
+        Places::from_start(alloc, document, keys, false)
+    }
+
+    /// Creates a walk on which nothing is left of the keys wherever these are the front of a place's own.
+    pub(crate) fn below(
+        alloc: Global,
+        document: &'a str,
+        front: &'k str,
+    ) -> Result<Places<'a, 'k>, AllocError> {
+        Places::from_start(alloc, document, front, true)
+    }
+
+    fn from_start(
+        alloc: Global,
+        document: &'a str,
+        keys: &'k str,
+        is_cut: bool,
+    ) -> Result<Places<'a, 'k>, AllocError> {
         let mut open = Vec::new(alloc);
         open.push(Open {
             left: Some(keys),
@@ -79,21 +105,9 @@ impl<'a, 'k> Places<'a, 'k> {
         Ok(Places {
             rest,
             keys,
-            is_cut: false,
+            is_cut,
             open,
             parts: None,
-        })
-    }
-
-    /// Creates a walk on which nothing is left of the keys wherever these are the front of a place's own.
-    pub(crate) fn below(
-        alloc: Global,
-        document: &'a str,
-        front: &'k str,
-    ) -> Result<Places<'a, 'k>, AllocError> {
-        Ok(Places {
-            is_cut: true,
-            ..Places::new(alloc, document, front)?
         })
     }
 
@@ -129,9 +143,23 @@ impl<'a, 'k> Places<'a, 'k> {
         }
     }
 
+    /// Passes all up to the next place with the keys that are looked for, and returns it, or `None` if there is none.
+    pub(crate) fn find(&mut self, alloc: Global) -> Result<Option<Place<'a, 'k>>, ParseError> {
+        // Each step passes at least one character.
+        for _ in 0..self.rest.len() {
+            let Some(place) = self.step(alloc)? else {
+                continue;
+            };
+            if place.has_all_keys() {
+                return Ok(Some(place));
+            }
+        }
+        Ok(None)
+    }
+
     /// Passes the first part of the key of a header.
     fn header(&mut self, alloc: Global, header: &'a str) -> Result<Place<'a, 'k>, ParseError> {
-        let key = header.trim_start_matches(|c| matches!(c, '[' | ' ' | '\t'));
+        let key = header.trim_start_matches(['[', ' ', '\t']);
         let parts = Parts {
             header: Some(header),
             left: Some(self.keys),
@@ -199,7 +227,7 @@ impl<'a, 'k> Places<'a, 'k> {
             tail(
                 value,
                 value
-                    .find(|c| matches!(c, ',' | ']' | '}' | '#' | '\n'))
+                    .find([',', ']', '}', '#', '\n'])
                     .unwrap_or(value.len()),
             )
         };
@@ -223,23 +251,25 @@ impl<'a, 'k> Places<'a, 'k> {
 
     /// Returns what is left of the keys after a name.
     fn left_after_name(&self, left: Option<&'k str>, name: &str) -> Option<&'k str> {
-        let mut left = left?;
+        let left = left?;
         if self.is_cut && left.is_empty() {
             return Some(left);
         }
-        if left.len() < self.keys.len() {
-            left = left.strip_prefix('.')?;
-        }
+        let left = if left.len() < self.keys.len() {
+            left.strip_prefix('.')?
+        } else {
+            left
+        };
         match left.strip_prefix(name) {
-            None if self.is_cut && name.starts_with(left) => Some(""),
-            left => left,
+            Some(left) => Some(left),
+            None => (self.is_cut && name.starts_with(left)).then_some(""),
         }
     }
 }
 
 /// Returns the part of a key at the front that is not in quotes.
 pub(crate) fn bare_name(part: &str) -> &str {
-    let end = part.find(|c| matches!(c, '.' | '=' | ']' | ' ' | '\t'));
+    let end = part.find(['.', '=', ']', ' ', '\t']);
     part.get(..end.unwrap_or(part.len())).unwrap_or("")
 }
 

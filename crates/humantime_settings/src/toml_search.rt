@@ -19,13 +19,11 @@ pub(crate) fn unknown_key(
     keys: &str,
 ) -> Result<Option<usize>, ParseError> {
     let mut places = Places::new(alloc, text, keys)?;
-    // Each step passes at least one character.
     for _ in 0..text.len() {
-        let Some(place) = places.step(alloc)? else {
-            continue;
+        let Some(place) = places.find(alloc)? else {
+            break;
         };
-        let key = place.key.unwrap_or(place.start);
-        if place.left == Some("") && start <= offset_of(text, key) {
+        if start <= offset_of(text, place.key.unwrap_or(place.start)) {
             return Ok(Some(offset_of(text, place.start)));
         }
     }
@@ -78,10 +76,10 @@ pub(crate) fn wrong_key<T: DeserializeOwned>(
     let mut places = Places::new(alloc, text, keys)?;
     let (mut found, mut tries) = (None, 0_usize);
     for _ in 0..text.len() {
-        let Some(place) = places.step(alloc)? else {
-            continue;
+        let Some(place) = places.find(alloc)? else {
+            break;
         };
-        let Some(key) = place.key.filter(|_| place.left == Some("")) else {
+        let Some(key) = place.key else {
             continue;
         };
         let Some(fault) = fault_of_key(alloc, said, key)? else {
@@ -142,10 +140,10 @@ fn below_cut_keys<T: DeserializeOwned>(
     let mut places = Places::below(alloc, text, front)?;
     let mut tries = 0_usize;
     for _ in 0..text.len() {
-        let Some(place) = places.step(alloc)? else {
-            continue;
+        let Some(place) = places.find(alloc)? else {
+            break;
         };
-        let Some(value) = place.value.filter(|_| place.left == Some("")) else {
+        let Some(value) = place.value else {
             continue;
         };
         let fault = if is_no_text && !starts_string(value) {
@@ -200,7 +198,7 @@ fn place_of<T: DeserializeOwned>(
     Ok(is_sure.then_some(offset_of(text, value)))
 }
 
-/// Returns the places to which these keys lead. Only an array has an invalid length.
+/// Returns the places to which these keys lead, and which can have the error `said`.
 fn places_of<'a, 'k>(
     alloc: Global,
     text: &'a str,
@@ -210,17 +208,22 @@ fn places_of<'a, 'k>(
     let mut places = Places::new(alloc, text, keys)?;
     let mut found: Vec<Place<'a, 'k>> = Vec::new(alloc);
     for _ in 0..text.len() {
-        let Some(place) = places.step(alloc)? else {
-            continue;
+        let Some(place) = places.find(alloc)? else {
+            break;
         };
-        // A table that is found has more keys.
-        let is_more = place.is_front() && !found.is_empty();
-        let is_array = first(place.value.unwrap_or(place.start)) == b'[';
-        if place.left == Some("") && !is_more && (is_array || said != "invalid length") {
+        if can_have(place, said, found.is_empty()) {
             found.push(place)?;
         }
     }
     Ok(found)
+}
+
+/// Returns `true` if a place can have the error `said`: only an array has an invalid length. A table that is found has more keys.
+fn can_have(place: Place<'_, '_>, said: &str, is_first: bool) -> bool {
+    if said == "invalid length" {
+        return first(place.value.unwrap_or(place.start)) == b'[';
+    }
+    is_first || !place.is_front()
 }
 
 /// Returns the last of these places that a reader comes to: those behind the fault can have any value.

@@ -167,12 +167,9 @@ fn wrong_value<T: DeserializeOwned>(
     // The first value of a wrong type in as many arrays.
     let mut found: Vec<Place<'_, '_>> = Vec::new(alloc);
     for _ in 0..text.len() {
-        let Some(place) = places.step(alloc)? else {
-            continue;
+        let Some(place) = places.find(alloc)? else {
+            break;
         };
-        if place.left != Some("") {
-            continue;
-        }
         if is_wrong_type(alloc, said, place)? {
             if !found.iter().any(|other| other.depth == place.depth) {
                 found.push(place)?;
@@ -214,22 +211,28 @@ fn is_wrong_type(alloc: Global, said: &str, place: Place<'_, '_>) -> Result<bool
     )
 }
 
-/// Returns the words that `toml` has for the value at the front. A date or a time is a map there.
+/// Returns the words that `toml` has for the value at the front.
 fn words_of(alloc: Global, value: &str) -> Result<String, ParseError> {
     if starts_string(value) {
         let (text, _) = quoted(alloc, value)?;
         return Ok(format!(in alloc; "string {text:?}")?);
     }
-    Ok(match first(value) {
-        b'[' => String::from_str(alloc, "sequence")?,
-        b'{' => String::from_str(alloc, "map")?,
-        _ => match unquoted(alloc, value)?.0 {
-            Scalar::Boolean(b) => format!(in alloc; "boolean `{b}`")?,
-            Scalar::Integer(n) => format!(in alloc; "integer `{n}`")?,
-            Scalar::Float(x) => format!(in alloc; "floating point `{x:?}`")?,
-            Scalar::Datetime(_) => String::from_str(alloc, "map")?,
-        },
-    })
+    let words = match first(value) {
+        b'[' => String::from_str(alloc, "sequence"),
+        b'{' => String::from_str(alloc, "map"),
+        _ => words_of_scalar(alloc, unquoted(alloc, value)?.0),
+    };
+    Ok(words?)
+}
+
+/// Returns the words that `toml` has for a value without quotes or brackets. A date or a time is a map there.
+fn words_of_scalar(alloc: Global, scalar: Scalar) -> Result<String, AllocError> {
+    match scalar {
+        Scalar::Boolean(b) => format!(in alloc; "boolean `{b}`"),
+        Scalar::Integer(n) => format!(in alloc; "integer `{n}`"),
+        Scalar::Float(x) => format!(in alloc; "floating point `{x:?}`"),
+        Scalar::Datetime(_) => String::from_str(alloc, "map"),
+    }
 }
 
 /// Returns the fault of the string at the front, if it can have the error `said`.
@@ -242,6 +245,6 @@ pub(crate) fn wrong_text(
         return Ok(None);
     }
     let (text, after) = quoted(alloc, value)?;
-    let source = value.get(..offset_of(value, after)).unwrap_or(value);
+    let source = value.get(..offset_of(value, after)).unwrap_or("");
     Ok(fault_in(alloc, said, source, &text)?)
 }
