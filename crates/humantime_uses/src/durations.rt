@@ -1,8 +1,8 @@
 //! Limits, sums and offsets of errors: callers that parse and print durations.
 
-ghost use Rattle.std.specs.Prelude.{◌≡◌, ◌+◌, ◌*◌, ◌/◌, ◌<◌, ◌≤◌, ◌↔◌, ℕ, List, [], chars, drop, slice_range, option_map, true, IfSome, IsSome, IsOk, IsOkAnd, IsErrAnd, IsTrue, SomeIff, None, Ok, Err};
+ghost use Rattle.std.specs.Prelude.{◌≡◌, ◌+◌, ◌*◌, ◌/◌, ◌<◌, ◌≤◌, ◌↔◌, ℕ, List, [], chars, drop, slice_range, option_map, true, IfSome, IfOk, IsSome, IsOk, IsOkAnd, IsErrAnd, IsTrue, SomeIff, None, Ok, Err};
 ghost use Rattle.std.specs.Result.{result_map_both};
-ghost use Rattle.humantime.specs.Prelude.{IsCanonicalText, Fault, InvalidCharacter, NumberExpected, UnknownUnit, NumberOverflow, Empty, duration_answer, duration_end, result_view, fault_of, place_of, nanos_per_second};
+ghost use Rattle.humantime.specs.Prelude.{Accepted, IsCanonicalText, Fault, InvalidCharacter, NumberExpected, UnknownUnit, NumberOverflow, Empty, duration_answer, duration_end, result_view, fault_of, place_of, nanos_per_second};
 
 use humantime::{DurationError, StdDuration, format_duration, parse_duration};
 
@@ -11,6 +11,27 @@ pub fn limit_seconds(text: &str) -> Result<u64, DurationError<'_>>
     ensures { result_view result ≡ result_map_both (λ v. v / nanos_per_second) (λ e. e) (duration_answer (chars text.now)) }
 {
     Ok(parse_duration(text)?.as_secs())
+}
+
+/// Parses a time limit, and rounds it up to whole seconds.
+pub fn whole_limit(text: &str) -> Result<u64, DurationError<'_>>
+    ensures { IfOk result (λ secs. (v : ℕ) × Accepted (chars text.now) v × (v ≤ secs * nanos_per_second)) }
+{
+    match seconds_up(parse_duration(text)?) {
+        Some(secs) => Ok(secs),
+        None => Err(DurationError::NumberOverflow),
+    }
+}
+
+/// Returns the seconds of a duration, rounded up, or `None` if they overflow `u64`.
+fn seconds_up(duration: StdDuration) -> Option<u64>
+    ensures { IfSome result (λ secs. duration ≤ secs * nanos_per_second) }
+{
+    if duration.subsec_nanos() == 0 {
+        Some(duration.as_secs())
+    } else {
+        duration.as_secs().checked_add(1)
+    }
 }
 
 /// Returns the sum of a start and a length, `None` if it is too long, or the first error of the two texts.

@@ -1,9 +1,12 @@
-//! Callers of the conversions of durations and moments into parts, and of differences.
+//! Callers of the values: their parts and differences, and their wrappers and printers.
 
-ghost use Rattle.std.specs.Prelude.{◌≡◌, ◌+◌, ◌*◌, ◌/◌, ◌%◌, ◌^◌, ◌<◌, ◌≤ℤ◌, ◌+ℤ◌, ◌↔◌, pos, IsTrue, Some, SomeIff};
-ghost use Rattle.humantime.specs.Prelude.{moment, nano_of, nanos_per_second, second_of};
+ghost use Rattle.std.specs.Prelude.{◌≡◌, ◌+◌, ◌*◌, ◌/◌, ◌%◌, ◌^◌, ◌<◌, ◌≤ℤ◌, ◌+ℤ◌, ◌<ℤ◌, ◌↔◌, pos, true, IsTrue, Some, SomeIff};
+ghost use Rattle.humantime.specs.Prelude.{duration_end, moment, moment_end, nano_of, nanos_per_second, second_of};
 
-use humantime::{Duration, StdDuration, SystemTime, Timestamp};
+use humantime::{
+    Duration, FormattedDuration, Rfc3339Timestamp, StdDuration, SystemTime, Timestamp,
+    parse_duration, parse_rfc3339_weak,
+};
 
 /// Returns a limit of seconds and nanoseconds, as in a protocol, or `None` if it is too long.
 pub fn limit_of_parts(secs: u64, nanos: u32) -> Option<Duration>
@@ -49,4 +52,39 @@ pub fn distance(moment: SystemTime, other: SystemTime) -> (bool, StdDuration)
         Ok(time) => (true, time),
         Err(error) => (false, error.duration()),
     }
+}
+
+/// Returns the sum of a limit and an extension of it, or `None` if that is too long.
+pub fn extended(limit: Duration, by: Duration) -> Option<Duration>
+    ensures { SomeIff result (limit + by < duration_end) (limit + by) }
+{
+    let longer = limit.as_ref().checked_add(StdDuration::from(by))?;
+    Some(Duration::new(longer))
+}
+
+/// Returns the timestamp `by` after another, or `None` if no moment represents it.
+pub fn postponed(stamp: Timestamp, by: Duration) -> Option<Timestamp>
+    ensures { SomeIff result ((stamp +ℤ pos by) <ℤ moment_end) (stamp +ℤ pos by) }
+{
+    let later = stamp.as_ref().checked_add(*by.as_ref())?;
+    Some(Timestamp::from(later))
+}
+
+/// Returns the values that two printers print.
+pub fn printed_values(
+    duration: &FormattedDuration,
+    stamp: &Rfc3339Timestamp,
+) -> (StdDuration, SystemTime)
+    ensures { result ≡ (duration.now, stamp.now.moment) }
+{
+    (*duration.get_ref(), *stamp.get_ref())
+}
+
+/// Returns `true` if the wrappers parse a text as the functions do, which they always do.
+pub fn is_parsed_alike(text: &str) -> bool
+    ensures { result ≡ true }
+{
+    let duration = Duration::from_str(text).map(|limit| StdDuration::from(limit));
+    let moment = text.parse::<Timestamp>().map(SystemTime::from);
+    duration == parse_duration(text) && moment == parse_rfc3339_weak(text)
 }
