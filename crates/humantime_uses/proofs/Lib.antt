@@ -1,6 +1,4 @@
-pub mod CharacterFacts
 pub mod CountedDays
-pub mod DayFacts
 pub mod FirstDigits
 pub mod Kept
 pub mod LastErrors
@@ -10,5 +8,5 @@ pub mod LongFractions
 pub mod MessageFacts
 pub mod OlderFacts
 pub mod Rounding
+pub mod TextFacts
 pub mod TimestampFacts
-pub mod WordFacts

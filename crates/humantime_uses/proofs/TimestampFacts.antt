@@ -1,19 +1,53 @@
--- What holds of any timestamp and of any moment, each rule written out; and which bytes fit at each place of a text, by computation.
+-- What holds of any day, timestamp and moment, each rule written out; and which bytes fit at each place of a text, by computation.
 use Rattle.std.proofs.Common.{◌≡◌, ◌≢◌, ◌↔◌, ◌⊎◌, ℕ, ◌+◌, ◌-◌, ◌*◌, ◌/◌, ◌%◌, ◌^◌, ◌≤◌, List, [], ◌∷◌, ◌++◌, None, Some, Result, Err, length, map, filter, take, drop, refl, inl, inr, arith}
-use Rattle.std.specs.Prelude.{ℤ, ◌≤ℤ◌, ◌<ℤ◌, pos, negsuc, Bool, true, false, ◌&&◌, ◌||◌, ◌==◌, nat_le, nat_lt, if◌then◌else◌, codes, is_ok, min, option_map, slice_index, IsTrue}
+use Rattle.std.specs.Prelude.{ℤ, ◌≤ℤ◌, ◌<ℤ◌, pos, negsuc, Bool, true, false, ◌&&◌, ◌||◌, ◌==◌, not, nat_le, nat_lt, if◌then◌else◌, codes, is_ok, min, option_map, slice_index, IsTrue}
 use Rattle.std.specs.Char.{is_ascii_digit}
 use Rattle.std.specs.List.{list_all, range_with_len}
 use Rattle.std.specs.Str.{byte, all_ascii_digits}
 use Rattle.std.proofs.lemmas.Bool.Decides.{nat_tests}
 use Rattle.std.proofs.lemmas.Int.{ints}
+use Rattle.humantime.specs.declared.calendar.Date.{Date}
 use Rattle.humantime.specs.declared.date.error.TimestampError.{TimestampError}
 use Rattle.humantime.specs.declared.date.error.TimestampError.TheVariants.{OutOfRange, InvalidDigit, InvalidFormat}
 use Rattle.humantime.specs.Prelude.{weak_answer, strict_answer, cut, moment_text, places_of, shortest_text, IsPrintable, IsPrinted}
 use Rattle.humantime.specs.Characters.{decimal_value}
-use Rattle.humantime.specs.Calendar.{IsDate, day_of, is_valid}
+use Rattle.humantime.specs.Calendar.{IsDate, days_in_month, days_of_months, days_of_years, is_leap_year, is_valid, day_of}
 use Rattle.humantime.specs.Timestamps.{date_time_of, ends_in_zone, first_failed, fraction_part, has_two, is_valid_date_time, strict_checks, weak_checks, Fields, Separator, Letter_T, Space, Zone, NoZone, Letter_Z, ZeroOffset, IsStrict, IsWeak, date_time_text, fields_text, four_digits, fraction_digits, fraction_nanos, fraction_text, moment_of, separator_byte, two_digits, zone_text}
 use Rattle.humantime.specs.TimestampResults.{fields_at}
 use Rattle.humantime.proofs.OnLiterals.{timestamps_on_literals}
+
+-- ---- the day after any day, the first day of any next month and year, and which dates exist
+
+abbrev date : ℕ → ℕ → ℕ → Date
+date y m d = record { year = y; month = m; day = d }
+
+first_day : day_of (date 1970 1 1) ≡ 0
+unfolding days_of_years days_of_months
+first_day = refl
+
+next_day : (y m d : ℕ) → 1 ≤ d → day_of (date y m (d + 1)) ≡ day_of (date y m d) + 1
+next_day y m d some = omega arith
+
+next_month : (y m : ℕ) → 1 ≤ m → day_of (date y (m + 1) 1) ≡ day_of (date y m 1) + days_in_month y m
+unfolding days_of_months
+next_month y m some = grind arith
+
+next_year : (y : ℕ) → 1970 ≤ y → day_of (date (y + 1) 1 1) ≡ day_of (date y 1 1) + (if is_leap_year y then 366 else 365)
+unfolding days_of_years days_of_months
+next_year y late = grind arith
+
+leap : (y : ℕ) → is_leap_year y ≡ ((y % 4 == 0) && (not (y % 100 == 0) || (y % 400 == 0)))
+leap y = refl
+
+lengths : (y : ℕ) → map (days_in_month y) (range_with_len 1 12)
+    ≡ 31 ∷ (if is_leap_year y then 29 else 28) ∷ 31 ∷ 30 ∷ 31 ∷ 30 ∷ 31 ∷ 31 ∷ 30 ∷ 31 ∷ 30 ∷ 31 ∷ []
+lengths y = refl
+
+valid : (y m d : ℕ) → is_valid y m d
+    ≡ ((nat_le 1970 y && nat_le y 9999) && (nat_le 1 m && nat_le m 12) && (nat_le 1 d && nat_le d (days_in_month y m)))
+valid y m d = refl
+
+-- ---- bytes
 
 -- Returns the bytes of ASCII with which the parser accepts the text if they take the place of its byte at this offset, or follow its end.
 abbrev fitting : (List ℕ → Result ℤ TimestampError) → List ℕ → ℕ → List ℕ
