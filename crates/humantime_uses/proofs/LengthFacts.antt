@@ -1,15 +1,17 @@
 -- What holds of texts of any length: of their digits, zeros, letters and whitespace, from the definitions alone.
-use Rattle.std.proofs.Common.{◌≡◌, ◌≢◌, ℕ, ◌+◌, ◌*◌, List, [], ◌∷◌, ◌++◌, Option, Some, None, length, take, refl, sym, ap, subst, ◌∙◌, arith, append_assoc, append-nil, inl}
-use Rattle.std.specs.Prelude.{codes, pos, IsPermutation, IsTrue, encode_utf8_all}
+use Rattle.std.proofs.Common.{◌≡◌, ◌≢◌, ◌↔◌, ℕ, ◌+◌, ◌*◌, ◌<◌, ◌≤◌, false, List, [], ◌∷◌, ◌++◌, Option, Some, None, length, reverse, take, refl, sym, ap, subst, ◌∙◌, arith, append_assoc, append-nil, inl}
+use Rattle.std.specs.Prelude.{codes, ◌==◌, pos, IsPermutation, IsTrue, encode_utf8_all}
 use Rattle.std.specs.Str.{byte, all_ascii_digits}
 use Rattle.std.proofs.Math.Seq.{take-append_seam}
+use Rattle.std.proofs.lemmas.Bool.Decides.{nat_tests}
 use Rattle.std.proofs.lemmas.Grind.{common_steps}
-use Rattle.humantime.specs.Characters.{decimal_value, drop_while, byte_length, is_digit, is_letter, is_whitespace, offset_of}
+use Rattle.std.proofs.lemmas.List.{length-reverse, reverse-append, reverse-reverse}
+use Rattle.humantime.specs.Characters.{begins, decimal_value, drop_while, take_while, byte_length, is_digit, is_letter, is_whitespace, offset_of, without_trailing_zeros}
 use Rattle.humantime.specs.Prelude.{AreReordered, Reads, SpelledSpan, HasFault, UnknownUnit, IsStrictMoment, nanos_per_second}
 use Rattle.humantime.specs.Durations.{HoldsDigits, IsLetters, HasOnly, Spells, additions_of, fits, fraction_fits, too_long, part, scale_of_word}
 use Rattle.humantime.specs.DurationErrors.{UnknownWord, after_fraction, after_word, may_follow_span, number_of, word_of}
 use Rattle.humantime.specs.Timestamps.{Letter_T, Letter_Z}
-use Rattle.humantime.proofs.Characters.{digit_is_numeric, drop_while-append, significant_zero}
+use Rattle.humantime.proofs.Characters.{begins-drop_while, digit_is_numeric, drop_while-append, significant_long, significant_zero, take_while-drop_while}
 use Rattle.humantime.proofs.Spellings.{IsSpelledAt, read_spelled, spelled_here}
 use Rattle.humantime.proofs.Sums.{within_tells}
 use Rattle.humantime.proofs.OnLiterals.{humantime_on_literals, timestamps_on_literals}
@@ -66,6 +68,37 @@ zero_after number ds word = (rw (significant_zero ds) refl, grind (arith, zero_f
 zero_before : (number word : List ℕ) (fraction : Option (List ℕ))
     → AreAlike (record { number = byte "0" ∷ number; fraction = fraction; word = word }) (record { number = number; fraction = fraction; word = word })
 zero_before number word fraction = (refl, grind (arith, common_steps), grind (arith, common_steps))
+
+-- A digit other than 0 follows the first nineteen digits.
+record IsLong (digits : List ℕ) : Type 0 where
+  before : List ℕ
+  digit : ℕ
+  after : List ℕ
+  whole : digits ≡ before ++ digit ∷ after
+  far : 19 ≤ length before
+  not_zero : digit ≢ 48
+
+last_counts : (zeros kept : List ℕ) → begins (λ d. d == 48) kept ≡ false → 19 < length kept → IsLong (reverse (zeros ++ kept))
+last_counts zeros [] e n = absurd (omega arith)
+last_counts zeros (d ∷ kept) e n = record {
+  before = reverse kept;
+  digit = d;
+  after = reverse zeros;
+  whole = rw (reverse-append zeros (d ∷ kept), reverse-append (d ∷ []) kept) (append_assoc (reverse kept) (d ∷ []) (reverse zeros));
+  far = omega (arith, length-reverse kept);
+  not_zero = grind (arith, nat_tests);
+}
+
+-- A fraction is too long if and only if such a digit follows.
+long_digits : (ds : List ℕ) → (19 < length (without_trailing_zeros ds)) ↔ IsLong ds
+unfolding without_trailing_zeros
+long_digits ds =
+    let zeros = take_while (λ d. d == 48) (reverse ds) in
+    let kept = drop_while (λ d. d == 48) (reverse ds) in (
+      λ n. rw (take_while-drop_while (λ d. d == 48) (reverse ds), reverse-reverse) at
+          (last_counts zeros kept (begins-drop_while (λ d. d == 48) (reverse ds)) (omega (arith, length-reverse kept))),
+      λ h. grind (arith, (significant_long h.before h.after h.digit), (h.whole), (h.far), (h.not_zero)),
+    )
 
 -- Spans may be in any other order.
 any_order : (text other : List ℕ) (spans others : List SpelledSpan) → Reads text spans → Reads other others → IsPermutation spans others

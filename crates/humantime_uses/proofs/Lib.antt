@@ -4,7 +4,6 @@ pub mod Kept
 pub mod LastErrors
 pub mod LengthFacts
 pub mod LimitFacts
-pub mod LongFractions
 pub mod MessageFacts
 pub mod OlderFacts
 pub mod Rounding
