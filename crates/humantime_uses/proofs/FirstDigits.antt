@@ -6,7 +6,7 @@ use Rattle.humantime.specs.Characters.{drop_while, is_whitespace}
 use Rattle.humantime.specs.Durations.{SpelledSpan}
 use Rattle.humantime.specs.Items.{AreItems, AreSpanViews, IsFractionView, IsSpanView, SpanView, items_of}
 use Rattle.humantime.specs.DurationErrors.{Fault}
-use Rattle.humantime_uses.specs.FirstItems.{HasDigitEnds, first_span}
+use Rattle.humantime_uses.specs.SpanItems.{HasDigitEnds, first_span}
 
 first_of_views : (text here end : List ℕ) (spans : List SpelledSpan) (slices : List SpanView) (stop : Option Fault) (x : SpanView)
     → AreSpanViews text here spans slices end → first_span (items_of slices stop) ≡ Some x → (s : SpelledSpan) × (next : List ℕ) × IsSpanView text here s x next

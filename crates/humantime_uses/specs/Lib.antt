@@ -1,2 +1,1 @@
-pub mod FirstItems
-pub mod Longest
+pub mod SpanItems

@@ -3,8 +3,7 @@
 ghost use Rattle.std.specs.Prelude.{◌≡◌, List, Option, Result, chars, flat_map, is_ok, option_map, true, IfSome};
 ghost use Rattle.std.specs.List.{list_all};
 ghost use Rattle.humantime.specs.Prelude.{AreItems, Fault, IsTiled, SpanView, items_left, slices_of, span_view};
-ghost use Rattle.humantime_uses.specs.FirstItems.{HasDigitEnds, first_span};
-ghost use Rattle.humantime_uses.specs.Longest.{longest_of};
+ghost use Rattle.humantime_uses.specs.SpanItems.{HasDigitEnds, first_span, longest_of};
 
 use humantime::laws::spans_tile;
 use humantime::{Span, SpanIter, StdDuration, parse_duration, spans};
