@@ -77,24 +77,6 @@ impl<'a, 'k> Places<'a, 'k> {
         document: &'a str,
         keys: &'k str,
     ) -> Result<Places<'a, 'k>, AllocError> {
-        Places::from_start(alloc, document, keys, false)
-    }
-
-    /// Creates a walk on which nothing is left of the keys wherever these are the front of a place's own.
-    pub(crate) fn below(
-        alloc: Global,
-        document: &'a str,
-        front: &'k str,
-    ) -> Result<Places<'a, 'k>, AllocError> {
-        Places::from_start(alloc, document, front, true)
-    }
-
-    fn from_start(
-        alloc: Global,
-        document: &'a str,
-        keys: &'k str,
-        is_cut: bool,
-    ) -> Result<Places<'a, 'k>, AllocError> {
         let mut open = Vec::new(alloc);
         open.push(Open {
             left: Some(keys),
@@ -105,10 +87,21 @@ impl<'a, 'k> Places<'a, 'k> {
         Ok(Places {
             rest,
             keys,
-            is_cut,
+            is_cut: false,
             open,
             parts: None,
         })
+    }
+
+    /// Creates a walk on which nothing is left of the keys wherever these are the front of a place's own.
+    pub(crate) fn below(
+        alloc: Global,
+        document: &'a str,
+        front: &'k str,
+    ) -> Result<Places<'a, 'k>, AllocError> {
+        let mut places = Places::new(alloc, document, front)?;
+        places.is_cut = true;
+        Ok(places)
     }
 
     /// Passes a part of a key, with the line of its header or its value behind the last one; an item; or a mark between these, no place.
