@@ -128,6 +128,9 @@ const TOML: &[Case] = &[
     // Inline tables, dotted and quoted keys, and lists, on several lines.
     ("timeout = '2h'\nmore = [\n  { name = 'b', # [\n    every = '1 s é' },\n]\nJOB", 4, 18, "é", "expected number at 4"),
     ("\"timeout\" = '1~'\nJOB", 1, 15, "~", "invalid character at 1"),
+    // Keys that are a character shorter or longer.
+    ("timeou = '1~'\ntimeout = '1~'\nJOB", 2, 13, "~", "invalid character at 1"),
+    ("timeouts = '1~'\ntimeout = '1~'\nJOB", 2, 13, "~", "invalid character at 1"),
     ("timeout = '1s'\ndays.a = '2018-02-14 00:28:07'\ndays . \"b\" = '2018-02-14'\nJOB", 3, 25, "", "timestamp format is invalid"),
     ("timeout = '1s'\npauses = [ '1s', # '1 é'\n '2s' , '1 é' ]\nJOB", 3, 12, "é", "invalid character at 2"),
     ("timeout = \"\"\"\n1s\n2s x\"\"\"\nJOB", 3, 4, "x", "expected number at 6"),
@@ -157,6 +160,9 @@ const TOML: &[Case] = &[
     ("timeout = '2h'\ncounts = [ 1, { a = 1 } ]\nJOB", 2, 15, "", "invalid type: map, expected an integer"),
     ("timeout = '2h'\ncounts = [ 1, 1979-05-27 ]\nJOB", 2, 15, "", "invalid type: map, expected an integer"),
     // An item that is an array of the wrong type, and not the array that it is in; with the same number where it is right.
+    ("timeout = '2h'\ncounts = [1, 2.0]\nJOB", 2, 14, "", "invalid type: floating point `2.0`, expected an integer"),
+    ("timeout = '2h'\npairs = [[1], -1]\nJOB", 2, 15, "", "invalid type: integer `-1`, expected a sequence"),
+    ("timeout = '2h'\nends.a = ['2018-02-14 00:28:07']\nJOB", 2, 10, "", "expected a timestamp in quotes"),
     ("timeout = '2h'\ncounts = [1, [2]]\nJOB", 2, 14, "", "invalid type: sequence, expected an integer"),
     ("timeout = '2h'\ncounts = [1, [[2], 3], [4]]\nJOB", 2, 14, "", "invalid type: sequence, expected an integer"),
     ("timeout = '2h'\npairs = [[1], [1, 2], [[1], 2], [[3]]]\nJOB", 2, 24, "", "invalid type: sequence, expected an integer"),
@@ -291,5 +297,7 @@ fn errors_behind_much_else(rt: HostRuntime) -> Result<(), Fail> {
     let text = format!(in alloc; "timeout = \"{tabs}1~\"")?;
     assert_error(&rt, toml, &text, (1, 40_013, "~", "invalid character at 20001"))?;
     let text = format!(in alloc; "timeout = '1s'\npauses = [{others}'1~']\n{TOML_JOB}")?;
-    assert_error(&rt, toml, &text, (2, 30_013, "~", "invalid character at 1"))
+    assert_error(&rt, toml, &text, (2, 30_013, "~", "invalid character at 1"))?;
+    let text = format!(in alloc; "others = [{others}'1s']\ntimeout = '1~'\n{TOML_JOB}")?;
+    assert_error(&rt, toml, &text, (2, 13, "~", "invalid character at 1"))
 }

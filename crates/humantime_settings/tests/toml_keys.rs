@@ -68,6 +68,7 @@ const KEYS: &[Case] = &[
     ("counts = { 10 = 1 }", 1, 14, "", "time unit needed, for example 10sec or 10ms"),
     ("counts.1s = 1\ncounts.'~' = 1", 2, 9, "~", "expected number at 0"),
     ("[ counts . '1~' ]\n", 1, 14, "~", "invalid character at 1"),
+    ("counts.'1~'.x = 1\ncounts.'1~'.y = 1", 1, 10, "~", "invalid character at 1"),
     // A key that would be no duration, and keys whose text is the same.
     ("texts.x = '~'", 1, 12, "~", "expected number at 0"),
     ("'part.every' = 1", 1, 1, "", "unknown field `part.every`"),
@@ -75,7 +76,8 @@ const KEYS: &[Case] = &[
     ("texts = { '1~' = '1~' }", 1, 20, "~", "invalid character at 1"),
     ("waits = { '1~' = '1~' }", 1, 13, "~", "invalid character at 1"),
     ("waits = { '1~' = '1s', '1s' = '1~' }", 1, 33, "~", "invalid character at 1"),
-    // A table that lacks a key begins at the first key that makes it, or at its header behind that.
+    // A table that lacks a key begins at its brace, at the first key that makes it, or at its header behind that.
+    ("part = { name = 'a' }", 1, 8, "", "missing field `every`"),
     ("wait = '1s'\npart.name = 'a'\npart.more = 1\n", 2, 1, "", "missing field `every`"),
     ("[part.more]\n[part.most]\n", 1, 2, "", "missing field `every`"),
     ("[part.more]\n[part]\nname = 'a'\n", 2, 1, "", "missing field `every`"),
@@ -97,12 +99,17 @@ const KEYS: &[Case] = &[
     ("[mode]\nSlwo = 1", 2, 1, "", "unknown variant `Slwo`"),
     ("modes = ['Fast', 'Slwo', 'Slwo']", 1, 18, "", "unknown variant `Slwo`"),
     ("modes = ['Fast', 'Slwo']", 1, 18, "", "unknown variant `Slwo`"),
+    ("modes = ['Slwo', 'Fast', 'Fast']", 1, 10, "", "unknown variant `Slwo`"),
+    ("modes = ['Fast', 'Slwo', 'Fast', 'Fast', 'Fast', 'Fast']", 1, 18, "", "unknown variant `Slwo`"),
+    ("modes = ['Slwo', { Slwo = 1 }]", 1, 10, "", "unknown variant `Slwo`"),
     ("modes = [{ Slow = 1 }, { Slwo = 2 }, { Slwo = 3 }]", 1, 26, "", "unknown variant `Slwo`"),
     // Other errors are marked at the only place with their keys, and among several if other values in these places show it.
     ("pair = [1]", 1, 8, "", "invalid length"),
     ("pair = [1, 2, 3]", 1, 8, "", "invalid length"),
     ("either = 'x'", 1, 1, "", "data did not match any variant of untagged enum"),
+    ("either.x = 1\neither.y = 2", 1, 1, "", "data did not match any variant of untagged enum"),
     ("eithers = [1, 'x', 2]", 0, 0, "", "data did not match any variant of untagged enum in `eithers`"),
+    ("[[eithers]]\nx = 1\n[[eithers]]\nx = 1\n", 0, 0, "", "data did not match any variant of untagged enum in `eithers`"),
 ];
 
 #[test]
