@@ -13,6 +13,11 @@ pub(crate) const WANTS_DURATION: &str = "expected a duration in quotes";
 /// The error of a value that is no text, where a timestamp is wanted.
 pub(crate) const WANTS_TIMESTAMP: &str = "expected a timestamp in quotes";
 
+/// Returns `true` if this is the error of a value that is no text.
+pub(crate) fn wants_text(said: &str) -> bool {
+    said == WANTS_DURATION || said == WANTS_TIMESTAMP
+}
+
 /// Returns the message of an error.
 pub(crate) fn message_of<E: Display + Drop>(error: E) -> Message {
     Message::of(error)

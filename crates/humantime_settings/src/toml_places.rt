@@ -24,19 +24,6 @@ impl Place<'_, '_> {
     pub(crate) fn is_front(&self) -> bool {
         self.value.is_none() && first(self.start) != b'['
     }
-
-    /// Returns `true` for an item of an array, and for a header that adds one.
-    pub(crate) fn is_item(&self) -> bool {
-        match (self.key, self.value) {
-            (Some(_), None) => self.start.starts_with("[["),
-            (key, _) => key.is_none(),
-        }
-    }
-
-    /// Returns `true` if nothing is left of the keys that are looked for.
-    pub(crate) fn has_all_keys(&self) -> bool {
-        self.left.is_some_and(|left| left.is_empty())
-    }
 }
 
 /// A walk over the keys and values of a document that `toml` has read.
@@ -93,14 +80,16 @@ impl<'a, 'k> Places<'a, 'k> {
         })
     }
 
-    /// Creates a walk on which nothing is left of the keys wherever these are the front of a place's own.
-    pub(crate) fn below(
+    /// Creates a walk with the keys of a message, which `toml` cuts at 80 bytes, or before a character that these have no room for. Wherever
+    /// those that are cut are the front of a place's own, nothing is left of them.
+    pub(crate) fn said(
         alloc: Global,
         document: &'a str,
-        front: &'k str,
+        keys: &'k str,
     ) -> Result<Places<'a, 'k>, AllocError> {
-        let mut places = Places::new(alloc, document, front)?;
-        places.is_cut = true;
+        let front = keys.strip_suffix("...").filter(|_| keys.len() > 76);
+        let mut places = Places::new(alloc, document, front.unwrap_or(keys))?;
+        places.is_cut = front.is_some();
         Ok(places)
     }
 
@@ -143,15 +132,16 @@ impl<'a, 'k> Places<'a, 'k> {
             let Some(place) = self.step(alloc)? else {
                 continue;
             };
-            if place.has_all_keys() {
+            if place.left == Some("") {
                 return Ok(Some(place));
             }
         }
         Ok(None)
     }
 
-    /// Passes the first part of the key of a header.
+    /// Passes the first part of the key of a header, which ends the table before.
     fn header(&mut self, alloc: Global, header: &'a str) -> Result<Place<'a, 'k>, ParseError> {
+        self.open.clear();
         let key = header.trim_start_matches(['[', ' ', '\t']);
         let parts = Parts {
             header: Some(header),
@@ -174,19 +164,12 @@ impl<'a, 'k> Places<'a, 'k> {
             key: Some(part),
             value: None,
             left,
-            depth: if parts.header.is_some() {
-                0
-            } else {
-                self.open.len()
-            },
+            depth: self.open.len(),
         };
         if first(after) == b'.' {
             self.rest = skip_ws(tail(after, 1));
             self.parts = Some(Parts { left, ..parts });
-            return Ok(place);
-        }
-        if let Some(header) = parts.header {
-            self.open.clear();
+        } else if let Some(header) = parts.header {
             self.open.push(Open {
                 left,
                 is_array: false,

@@ -1,12 +1,12 @@
 //! The search for the place of an error in a TOML document.
 
-use crate::faults::{Fault, WANTS_DURATION, WANTS_TIMESTAMP, fault_in};
+use crate::faults::{Fault, Message, fault_in, wants_text};
 use crate::toml_places::{Place, Places, after_value, bare_name};
-use crate::toml_settings::{joined, name_in, offset_of, wrong_text};
+use crate::toml_settings::{joined, name_in, offset_of};
 use serde::DeserializeOwned;
-use std::alloc::Global;
+use std::alloc::{AllocError, Global};
 use toml_parser::text::first;
-use toml_parser::{ParseError, starts_string};
+use toml_parser::{ParseError, Scalar, quoted, starts_string, unquoted};
 
 /// How many values that can have an error are tried.
 const TRIES: usize = 8;
@@ -48,16 +48,16 @@ pub(crate) fn table_without(
             continue;
         };
         // What is found so far is in the item before.
-        if place.is_item() && !left.is_empty() {
+        let is_item = place.key.is_none() || place.start.starts_with("[[");
+        if is_item && !left.is_empty() {
             if found.is_some() && !has_name {
                 return Ok(found);
             }
             (found, has_name) = (None, false);
         }
         has_name |= left.is_empty();
-        let is_table = place.value.is_none_or(|value| first(value) == b'{');
-        if is_table
-            && left.strip_prefix('.') == Some(name)
+        if left.strip_prefix('.') == Some(name)
+            && place.value.is_none_or(|value| first(value) == b'{')
             && (found.is_none() || !place.is_front())
         {
             found = Some(offset_of(text, place.value.unwrap_or(place.start)));
@@ -85,11 +85,12 @@ pub(crate) fn wrong_key<T: DeserializeOwned>(
         let Some(fault) = fault_of_key(alloc, said, key)? else {
             continue;
         };
-        let value = place.value.unwrap_or("");
-        if tries == TRIES || !value.is_empty() && is_read::<T>(alloc, text, said, value)? {
-            return Ok(None);
+        if let Some(value) = place.value.filter(|_| tries < TRIES) {
+            if is_read::<T>(alloc, text, said, value)? {
+                return Ok(None);
+            }
+            tries = tries.saturating_add(1);
         }
-        tries = tries.saturating_add(1);
         found = found.or(Some(fault.after(offset_of(text, key))));
     }
     Ok(found)
@@ -98,46 +99,34 @@ pub(crate) fn wrong_key<T: DeserializeOwned>(
 /// Returns the fault of the part of a key at the front, if it can have the error `said`.
 fn fault_of_key(alloc: Global, said: &str, key: &str) -> Result<Option<Fault>, ParseError> {
     if starts_string(key) {
-        return wrong_text(alloc, said, key);
+        return fault_of_value(alloc, said, key);
     }
     let name = bare_name(key);
     Ok(fault_in(alloc, said, name, name)?)
 }
 
-/// Returns the fault of another error below these keys.
-pub(crate) fn other_fault<T: DeserializeOwned>(
+/// Returns the fault of the value at the front, if it can have the error `said` of a duration or a timestamp.
+fn fault_of_value(alloc: Global, said: &str, value: &str) -> Result<Option<Fault>, ParseError> {
+    if starts_string(value) {
+        let (text, after) = quoted(alloc, value)?;
+        let source = value.get(..offset_of(value, after)).unwrap_or("");
+        return Ok(fault_in(alloc, said, source, &text)?);
+    }
+    if wants_text(said) {
+        let message = String::from_str(alloc, said)?;
+        return Ok(Some(Fault::at(0, message)));
+    }
+    Ok(None)
+}
+
+/// Returns the fault of the value with these keys that is no duration or timestamp, and has the error `said`.
+pub(crate) fn wrong_text<T: DeserializeOwned>(
     alloc: Global,
     text: &str,
     said: &str,
     keys: &str,
 ) -> Result<Option<Fault>, ParseError> {
-    // `toml` cuts keys at 80 bytes, with dots at the end, or before a character that these have no room for.
-    if let Some(front) = keys.strip_suffix("...").filter(|_| keys.len() > 76) {
-        return below_cut_keys::<T>(alloc, text, said, front);
-    }
-    let Some(mut at) = place_of::<T>(alloc, text, said, keys)? else {
-        return Ok(None);
-    };
-    // The name of a variant is a string, or a key in the value.
-    if let Some(name) = name_in(said, "unknown variant `") {
-        if !starts_string(text.get(at..).unwrap_or("")) {
-            let keys = joined(alloc, keys, name)?;
-            at = unknown_key(alloc, text, at, &keys)?.unwrap_or(at);
-        }
-    }
-    let message = String::from_str(alloc, said)?;
-    Ok(Some(Fault::at(at, message)))
-}
-
-/// Returns the fault of a duration or a timestamp below keys with this front.
-fn below_cut_keys<T: DeserializeOwned>(
-    alloc: Global,
-    text: &str,
-    said: &str,
-    front: &str,
-) -> Result<Option<Fault>, ParseError> {
-    let is_no_text = said == WANTS_DURATION || said == WANTS_TIMESTAMP;
-    let mut places = Places::below(alloc, text, front)?;
+    let mut places = Places::said(alloc, text, keys)?;
     let mut tries = 0_usize;
     for _ in 0..text.len() {
         let Some(place) = places.find(alloc)? else {
@@ -146,13 +135,7 @@ fn below_cut_keys<T: DeserializeOwned>(
         let Some(value) = place.value else {
             continue;
         };
-        let fault = if is_no_text && !starts_string(value) {
-            let message = String::from_str(alloc, said)?;
-            Some(Fault::at(0, message))
-        } else {
-            wrong_text(alloc, said, value)?
-        };
-        let Some(fault) = fault else {
+        let Some(fault) = fault_of_value(alloc, said, value)? else {
             continue;
         };
         if has_fault::<T>(alloc, text, said, value)? {
@@ -166,6 +149,94 @@ fn below_cut_keys<T: DeserializeOwned>(
     Ok(None)
 }
 
+/// Returns the offset of the value with these keys that has the wrong type: the first of its type in as many arrays.
+pub(crate) fn wrong_type<T: DeserializeOwned>(
+    alloc: Global,
+    text: &str,
+    said: &str,
+    keys: &str,
+) -> Result<Option<usize>, ParseError> {
+    let mut places = Places::new(alloc, text, keys)?;
+    let mut found: Vec<Place<'_, '_>> = Vec::new(alloc);
+    for _ in 0..text.len() {
+        let Some(place) = places.find(alloc)? else {
+            break;
+        };
+        if is_wrong_type(alloc, said, place)?
+            && !found.iter().any(|other| other.depth == place.depth)
+        {
+            found.push(place)?;
+        }
+    }
+    let Some(place) = last_read::<T>(alloc, text, said, &found)? else {
+        return Ok(None);
+    };
+    let Some(value) = place.value else {
+        return Ok(Some(offset_of(text, place.start)));
+    };
+    Ok(is_read::<T>(alloc, text, said, value)?.then_some(offset_of(text, value)))
+}
+
+/// Returns `true` if `toml` can say this of the type of a value.
+fn is_wrong_type(alloc: Global, said: &str, place: Place<'_, '_>) -> Result<bool, ParseError> {
+    let Some(value) = place.value else {
+        // A header makes a table, and one in two brackets an array, too.
+        return Ok(
+            said.starts_with("invalid type: map")
+                || place.start.starts_with("[[") && said.starts_with("invalid type: sequence"),
+        );
+    };
+    let found = words_of(alloc, value)?;
+    Ok(
+        ["invalid type: ", "invalid value: "].iter().any(|front| said.starts_with(
+            Message::of(*front).and(&*found, 40).as_str(),
+        )),
+    )
+}
+
+/// Returns the words that `toml` has for the value at the front.
+fn words_of(alloc: Global, value: &str) -> Result<String, ParseError> {
+    if starts_string(value) {
+        let (text, _) = quoted(alloc, value)?;
+        return Ok(format!(in alloc; "string {text:?}")?);
+    }
+    let words = match first(value) {
+        b'[' => String::from_str(alloc, "sequence"),
+        b'{' => String::from_str(alloc, "map"),
+        _ => words_of_scalar(alloc, unquoted(alloc, value)?.0),
+    };
+    Ok(words?)
+}
+
+/// Returns the words that `toml` has for a value without quotes or brackets. A date or a time is a map there.
+fn words_of_scalar(alloc: Global, scalar: Scalar) -> Result<String, AllocError> {
+    match scalar {
+        Scalar::Boolean(b) => format!(in alloc; "boolean `{b}`"),
+        Scalar::Integer(n) => format!(in alloc; "integer `{n}`"),
+        Scalar::Float(x) => format!(in alloc; "floating point `{x:?}`"),
+        Scalar::Datetime(_) => String::from_str(alloc, "map"),
+    }
+}
+
+/// Returns the offset of another place that these keys lead to and that has the error `said`.
+pub(crate) fn other_place<T: DeserializeOwned>(
+    alloc: Global,
+    text: &str,
+    said: &str,
+    keys: &str,
+) -> Result<Option<usize>, ParseError> {
+    let at = place_of::<T>(alloc, text, said, keys)?;
+    // The name of a variant is a string, or a key in the value.
+    let (Some(at), Some(name)) = (at, name_in(said, "unknown variant `")) else {
+        return Ok(at);
+    };
+    if starts_string(text.get(at..).unwrap_or("")) {
+        return Ok(Some(at));
+    }
+    let key = unknown_key(alloc, text, at, &joined(alloc, keys, name)?)?;
+    Ok(Some(key.unwrap_or(at)))
+}
+
 /// Returns the place to which these keys lead, if it is the only one or values in its place show that it has the error.
 fn place_of<T: DeserializeOwned>(
     alloc: Global,
@@ -175,15 +246,15 @@ fn place_of<T: DeserializeOwned>(
 ) -> Result<Option<usize>, ParseError> {
     let found = places_of(alloc, text, said, keys)?;
     let is_only = found.len() == 1;
-    if !is_only && found.iter().any(|place| place.value.is_none()) {
-        return Ok(None);
+    if let Some(table) = found.iter().find(|place| place.value.is_none()) {
+        // Where a text is wanted, each value was tried.
+        let is_sure = is_only || wants_text(said);
+        return Ok(is_sure.then_some(offset_of(text, table.start)));
     }
     let Some(place) = last_read::<T>(alloc, text, said, &found)? else {
         return Ok(None);
     };
-    let Some(value) = place.value else {
-        return Ok(Some(offset_of(text, place.start)));
-    };
+    let value = place.value.unwrap_or("");
     if !is_read::<T>(alloc, text, said, value)? {
         return Ok(is_only.then_some(offset_of(text, place.start)));
     }
@@ -193,7 +264,7 @@ fn place_of<T: DeserializeOwned>(
         .is_some_and(|other| other.len() < value.len()));
     let is_sure = match next {
         Some(next) => next.depth <= place.depth,
-        None => is_only || said.starts_with("unknown variant"),
+        None => place.key.is_some() || said.starts_with("unknown variant"),
     };
     Ok(is_sure.then_some(offset_of(text, value)))
 }

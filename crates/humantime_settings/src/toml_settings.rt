@@ -5,13 +5,13 @@ ghost use Rattle.toml.specs.Parse.{parse_document};
 ghost use Rattle.humantime_settings.specs.Marks.{IsErrorIn};
 
 use crate::error::{SettingsError, marked_at};
-use crate::faults::{Fault, Message, WANTS_DURATION, WANTS_TIMESTAMP, fault_in};
-use crate::toml_places::{Place, Places};
-use crate::toml_search::{last_read, other_fault, table_without, unknown_key, wrong_key};
+use crate::faults::Fault;
+use crate::toml_search::{
+    other_place, table_without, unknown_key, wrong_key, wrong_text, wrong_type,
+};
 use serde::{DeserializeOwned, Serialize};
 use std::alloc::{AllocError, Global};
-use toml_parser::text::first;
-use toml_parser::{ParseError, Scalar, quoted, starts_string, unquoted};
+use toml_parser::ParseError;
 
 /// Reads settings in TOML.
 ///
@@ -132,10 +132,13 @@ fn search<T: DeserializeOwned>(
         if let Some(fault) = wrong_key::<T>(alloc, text, said, keys)? {
             return Ok(Some(fault));
         }
-        return match wrong_value::<T>(alloc, text, said, keys)? {
-            Some(fault) => Ok(Some(fault)),
-            None => other_fault::<T>(alloc, text, said, keys),
-        };
+        if let Some(fault) = wrong_text::<T>(alloc, text, said, keys)? {
+            return Ok(Some(fault));
+        }
+        match wrong_type::<T>(alloc, text, said, keys)? {
+            Some(at) => Some(at),
+            None => other_place::<T>(alloc, text, said, keys)?,
+        }
     };
     Ok(match at {
         Some(at) => Some(Fault::at(at, String::from_str(alloc, said)?)),
@@ -156,95 +159,7 @@ pub(crate) fn joined(alloc: Global, table: &str, name: &str) -> Result<String, A
     format!(in alloc; "{table}.{name}")
 }
 
-/// Returns the fault of a value that has these keys and can have the error `said`.
-fn wrong_value<T: DeserializeOwned>(
-    alloc: Global,
-    text: &str,
-    said: &str,
-    keys: &str,
-) -> Result<Option<Fault>, ParseError> {
-    let mut places = Places::new(alloc, text, keys)?;
-    // The first value of a wrong type in as many arrays.
-    let mut found: Vec<Place<'_, '_>> = Vec::new(alloc);
-    for _ in 0..text.len() {
-        let Some(place) = places.find(alloc)? else {
-            break;
-        };
-        if is_wrong_type(alloc, said, place)? {
-            if !found.iter().any(|other| other.depth == place.depth) {
-                found.push(place)?;
-            }
-        } else if let Some(fault) = wrong_text(alloc, said, place.value.unwrap_or(""))? {
-            let start = offset_of(text, place.value.unwrap_or(""));
-            return Ok(Some(fault.after(start)));
-        }
-    }
-    let Some(place) = last_read::<T>(alloc, text, said, &found)? else {
-        return Ok(None);
-    };
-    let at = offset_of(text, place.value.unwrap_or(place.start));
-    Ok(Some(Fault::at(at, String::from_str(alloc, said)?)))
-}
-
 /// Returns the offset in a document of what ends it.
 pub(crate) fn offset_of(document: &str, end: &str) -> usize {
     document.len().saturating_sub(end.len())
-}
-
-/// Returns `true` if `toml` or a field can say this of the type of a value.
-fn is_wrong_type(alloc: Global, said: &str, place: Place<'_, '_>) -> Result<bool, ParseError> {
-    if said == WANTS_DURATION || said == WANTS_TIMESTAMP {
-        return Ok(!place.value.is_some_and(|value| starts_string(value)));
-    }
-    let Some(value) = place.value else {
-        let is_array = place.start.starts_with("[[");
-        return Ok(
-            said.starts_with("invalid type: map")
-                || is_array && said.starts_with("invalid type: sequence"),
-        );
-    };
-    let found = words_of(alloc, value)?;
-    Ok(
-        ["invalid type: ", "invalid value: "].iter().any(|front| {
-            said.starts_with(Message::of(*front).and(&*found, 40).as_str())
-        }),
-    )
-}
-
-/// Returns the words that `toml` has for the value at the front.
-fn words_of(alloc: Global, value: &str) -> Result<String, ParseError> {
-    if starts_string(value) {
-        let (text, _) = quoted(alloc, value)?;
-        return Ok(format!(in alloc; "string {text:?}")?);
-    }
-    let words = match first(value) {
-        b'[' => String::from_str(alloc, "sequence"),
-        b'{' => String::from_str(alloc, "map"),
-        _ => words_of_scalar(alloc, unquoted(alloc, value)?.0),
-    };
-    Ok(words?)
-}
-
-/// Returns the words that `toml` has for a value without quotes or brackets. A date or a time is a map there.
-fn words_of_scalar(alloc: Global, scalar: Scalar) -> Result<String, AllocError> {
-    match scalar {
-        Scalar::Boolean(b) => format!(in alloc; "boolean `{b}`"),
-        Scalar::Integer(n) => format!(in alloc; "integer `{n}`"),
-        Scalar::Float(x) => format!(in alloc; "floating point `{x:?}`"),
-        Scalar::Datetime(_) => String::from_str(alloc, "map"),
-    }
-}
-
-/// Returns the fault of the string at the front, if it can have the error `said`.
-pub(crate) fn wrong_text(
-    alloc: Global,
-    said: &str,
-    value: &str,
-) -> Result<Option<Fault>, ParseError> {
-    if !starts_string(value) {
-        return Ok(None);
-    }
-    let (text, after) = quoted(alloc, value)?;
-    let source = value.get(..offset_of(value, after)).unwrap_or("");
-    Ok(fault_in(alloc, said, source, &text)?)
 }

@@ -170,6 +170,13 @@ const TOML: &[Case] = &[
     ("timeout = '2h'\ncounts = [0x1F, +1_0, -2, 9_9.5]\nJOB", 2, 27, "", "invalid type: floating point `99.5`, expected an integer"),
     // Two values whose keys have the same text: the one that has the error.
     ("timeout = '2h'\n'more.every' = 'x'\nJOB\n[[more]]\nname = 'a'\nevery = '5 é'\nsince = '2018-02-14 00:28:07'\n", 9, 12, "é", "invalid character at 2"),
+    ("timeout = '2h'\n'job.every' = 5\n[job]\nname = 'a'\nevery = 7\nsince = '2018-02-14 00:28:07'", 5, 9, "", "expected a duration in quotes"),
+    ("timeout = '2h'\n[job]\nname = 'a'\nevery = 7\nsince = '2018-02-14 00:28:07'\n['job.every']", 4, 9, "", "expected a duration in quotes"),
+    ("timeout = '2h'\n'job.every' = '1~'\n[job]\nname = 'a'\nevery = '1~'\nsince = '2018-02-14 00:28:07'", 5, 11, "~", "invalid character at 1"),
+    ("timeout = '2h'\n'job.name' = 5\n[job]\nname = 5\n", 4, 8, "", "invalid type: integer `5`, expected a string"),
+    ("timeout = '2h'\n'more.every' = 5\nJOB\n[[more]]\nname = 'a'\nsince = '2018-02-14 00:28:07'\n[more.every]", 10, 1, "", "expected a duration in quotes"),
+    // A value that has the same text, and is right.
+    ("timeout = '2h'\n'more.every' = '1~'\nJOB\n[[more]]\nname = 'a'\nevery = '1~'\nsince = '2018-02-14 00:28:07'\n", 9, 11, "~", "invalid character at 1"),
     // Keys whose texts are the same without the dot.
     ("time.out = '1~'\ntimeout = '1~'\nJOB", 2, 13, "~", "invalid character at 1"),
     // A fault behind escapes.

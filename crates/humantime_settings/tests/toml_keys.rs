@@ -69,6 +69,7 @@ const KEYS: &[Case] = &[
     ("counts.1s = 1\ncounts.'~' = 1", 2, 9, "~", "expected number at 0"),
     ("[ counts . '1~' ]\n", 1, 14, "~", "invalid character at 1"),
     ("counts.'1~'.x = 1\ncounts.'1~'.y = 1", 1, 10, "~", "invalid character at 1"),
+    ("counts.'1~'.a = 1\ncounts.'1~'.b = 1\ncounts.'1~'.c = 1\ncounts.'1~'.d = 1\ncounts.'1~'.e = 1\ncounts.'1~'.f = 1\ncounts.'1~'.g = 1\ncounts.'1~'.h = 1\ncounts.'1~'.i = 1\n", 1, 10, "~", "invalid character at 1"),
     // A key that would be no duration, and keys whose text is the same.
     ("texts.x = '~'", 1, 12, "~", "expected number at 0"),
     ("'part.every' = 1", 1, 1, "", "unknown field `part.every`"),
@@ -92,6 +93,7 @@ const KEYS: &[Case] = &[
     ("wait = '1s'\nwiat.x = 1\n", 2, 1, "", "unknown field `wiat`"),
     ("[wiat.x]\n", 1, 2, "", "unknown field `wiat`"),
     ("[wiat]\n", 1, 1, "", "unknown field `wiat`"),
+    ("[[outers]]\npart.every = 5\n[[outers]]\n[outers.part.every]\n", 2, 14, "", "expected a duration in quotes"),
     // The name of a variant is marked as a string and as a key.
     ("mode = 'Slwo'", 1, 8, "", "unknown variant `Slwo`"),
     ("mode = { Slwo = 1 }", 1, 10, "", "unknown variant `Slwo`"),
@@ -119,18 +121,21 @@ fn errors_of_keys(rt: HostRuntime) -> Result<(), Fail> {
 
 #[test]
 fn keys_of_over_80_bytes(rt: HostRuntime) -> Result<(), Fail> {
-    // `texts.` and 74 bytes are named in full.
-    for count in [74, 75, 76, 200] {
-        let key = "k".repeat(rt.alloc(), count)?;
+    let alloc = rt.alloc();
+    // `texts.` and 74 bytes are named in full, and of more only whole characters.
+    for (count, end) in [(74, ""), (75, ""), (76, ""), (200, ""), (70, "ékkkk"), (68, "𝄞kkkk")] {
+        let key = format!(in alloc; "{}{end}", "k".repeat(alloc, count)?)?;
         for (lines, line, column, marked, message) in [
-            ("K = '~'", 2, 5, "~", "expected number at 0"),
-            ("K = 5", 2, 4, "", "expected a duration in quotes"),
+            ("'K' = '~'", 2, 7, "~", "expected number at 0"),
+            ("'K' = 5", 2, 6, "", "expected a duration in quotes"),
+            ("'Ka' = '1s'\n'Kb' = 5", 3, 7, "", "expected a duration in quotes"),
             // Of two wrong values, the one whose key sorts first.
-            ("Kb = '~'\nKa = '~'\nKc = '~'", 3, 6, "~", "expected number at 0"),
-            ("Kb = 1\nKc = 2\nKa = 3", 4, 5, "", "expected a duration in quotes"),
+            ("'Kb' = '~'\n'Ka' = '~'\n'Kc' = '~'", 3, 8, "~", "expected number at 0"),
+            ("'Kb' = 1\n'Kc' = 2\n'Ka' = 3", 4, 7, "", "expected a duration in quotes"),
         ] {
-            let text = format!(in rt.alloc(); "[texts]\n{lines}")?.replace(rt.alloc(), "K", &key)?;
-            assert_error(&rt, read, &text, (line, count + column, marked, message))?;
+            let text = format!(in alloc; "[texts]\n{lines}")?.replace(alloc, "K", &key)?;
+            let column = key.chars().count() + column;
+            assert_error(&rt, read, &text, (line, column, marked, message))?;
         }
     }
     Ok(())
