@@ -6,7 +6,7 @@ use toml_parser::{ParseError, quoted, starts_string};
 
 /// A part of a key, with what it leads to, or an item of an array.
 #[derive(Clone, Copy)]
-pub(crate) struct Place<'a, 'k> {
+pub(crate) struct Place<'a> {
     /// The document from there on: from the bracket of a header on at the last part of its key.
     pub start: &'a str,
     /// The document from the part on. An item has none.
@@ -14,12 +14,12 @@ pub(crate) struct Place<'a, 'k> {
     /// The document from the value on. A part that is not the last has none, and neither has a header.
     pub value: Option<&'a str>,
     /// What is left of the keys that are looked for, or `None` if its own differ.
-    pub left: Option<&'k str>,
+    pub left: Option<&'a str>,
     /// How many tables and arrays are open there.
     pub depth: usize,
 }
 
-impl Place<'_, '_> {
+impl Place<'_> {
     /// Returns `true` for a part of a key that other parts follow.
     pub(crate) fn is_front(&self) -> bool {
         self.value.is_none() && first(self.start) != b'['
@@ -28,73 +28,75 @@ impl Place<'_, '_> {
 
 /// A walk over the keys and values of a document that `toml` has read.
 #[derive(Drop)]
-pub(crate) struct Places<'a, 'k> {
+pub(crate) struct Places<'a> {
     rest: &'a str,
     /// The keys of the values that are looked for, with dots between them. Items of an array have the keys of the array.
-    keys: &'k str,
+    keys: &'a str,
     /// Whether `keys` are only the front of these.
     is_cut: bool,
     /// The table of the last header, and then the arrays and inline tables that are open.
-    open: Vec<Open<'k>>,
+    open: Vec<Open<'a>>,
     /// The key of which a part is next.
-    parts: Option<Parts<'a, 'k>>,
+    parts: Option<Parts<'a>>,
 }
 
 /// A table or an array that is not at its end.
 #[derive(Clone, Copy)]
-struct Open<'k> {
+struct Open<'a> {
     /// What is left of the keys that are looked for after its own, or `None` if these differ.
-    left: Option<&'k str>,
+    left: Option<&'a str>,
     is_array: bool,
 }
 
 /// A key that is not at its end.
 #[derive(Clone, Copy)]
-struct Parts<'a, 'k> {
+struct Parts<'a> {
     /// The document from the header on, if the key is that of one.
     header: Option<&'a str>,
     /// What is left of the keys that are looked for after the parts so far, or `None` if these differ.
-    left: Option<&'k str>,
+    left: Option<&'a str>,
 }
 
-impl<'a, 'k> Places<'a, 'k> {
-    /// Creates a walk from the start of a document.
+impl<'a> Places<'a> {
+    /// Creates a walk from the start of a document. If the keys are cut, nothing is left of them wherever they are the front of a place's own.
     pub(crate) fn new(
         alloc: Global,
         document: &'a str,
-        keys: &'k str,
-    ) -> Result<Places<'a, 'k>, AllocError> {
+        keys: &'a str,
+        is_cut: bool,
+    ) -> Result<Places<'a>, AllocError> {
         let mut open = Vec::new(alloc);
         open.push(Open {
             left: Some(keys),
             is_array: false,
         })?;
-        // `toml` accepts a byte order mark, too.
-        let rest = document.strip_prefix('\u{feff}').unwrap_or(document);
         Ok(Places {
-            rest,
+            // `toml` accepts a byte order mark, too.
+            rest: document.strip_prefix('\u{feff}').unwrap_or(document),
             keys,
-            is_cut: false,
+            is_cut,
             open,
             parts: None,
         })
     }
 
-    /// Creates a walk with the keys of a message, which `toml` cuts at 80 bytes, or before a character that these have no room for. Wherever
-    /// those that are cut are the front of a place's own, nothing is left of them.
-    pub(crate) fn said(
-        alloc: Global,
-        document: &'a str,
-        keys: &'k str,
-    ) -> Result<Places<'a, 'k>, AllocError> {
-        let front = keys.strip_suffix("...").filter(|_| keys.len() > 76);
-        let mut places = Places::new(alloc, document, front.unwrap_or(keys))?;
-        places.is_cut = front.is_some();
-        Ok(places)
+    /// Returns the places from here on that have the keys that are looked for.
+    pub(crate) fn all(mut self, alloc: Global) -> Result<Vec<Place<'a>>, ParseError> {
+        let mut found = Vec::new(alloc);
+        // Each step passes at least one character.
+        for _ in 0..self.rest.len() {
+            let Some(place) = self.step(alloc)? else {
+                continue;
+            };
+            if place.left == Some("") {
+                found.push(place)?;
+            }
+        }
+        Ok(found)
     }
 
     /// Passes a part of a key, with the line of its header or its value behind the last one; an item; or a mark between these, no place.
-    pub(crate) fn step(&mut self, alloc: Global) -> Result<Option<Place<'a, 'k>>, ParseError> {
+    pub(crate) fn step(&mut self, alloc: Global) -> Result<Option<Place<'a>>, ParseError> {
         let rest = self.rest;
         if let Some(parts) = self.parts.take() {
             return Ok(Some(self.part(alloc, rest, parts)?));
@@ -125,22 +127,8 @@ impl<'a, 'k> Places<'a, 'k> {
         }
     }
 
-    /// Passes all up to the next place with the keys that are looked for, and returns it, or `None` if there is none.
-    pub(crate) fn find(&mut self, alloc: Global) -> Result<Option<Place<'a, 'k>>, ParseError> {
-        // Each step passes at least one character.
-        for _ in 0..self.rest.len() {
-            let Some(place) = self.step(alloc)? else {
-                continue;
-            };
-            if place.left == Some("") {
-                return Ok(Some(place));
-            }
-        }
-        Ok(None)
-    }
-
     /// Passes the first part of the key of a header, which ends the table before.
-    fn header(&mut self, alloc: Global, header: &'a str) -> Result<Place<'a, 'k>, ParseError> {
+    fn header(&mut self, alloc: Global, header: &'a str) -> Result<Place<'a>, ParseError> {
         self.open.clear();
         let key = header.trim_start_matches(['[', ' ', '\t']);
         let parts = Parts {
@@ -155,8 +143,8 @@ impl<'a, 'k> Places<'a, 'k> {
         &mut self,
         alloc: Global,
         part: &'a str,
-        parts: Parts<'a, 'k>,
-    ) -> Result<Place<'a, 'k>, ParseError> {
+        parts: Parts<'a>,
+    ) -> Result<Place<'a>, ParseError> {
         let (left, after) = self.left_after(alloc, part, parts.left)?;
         let after = skip_ws(after);
         let mut place = Place {
@@ -189,7 +177,7 @@ impl<'a, 'k> Places<'a, 'k> {
         &mut self,
         alloc: Global,
         value: &'a str,
-        left: Option<&'k str>,
+        left: Option<&'a str>,
     ) -> Result<(), ParseError> {
         self.rest = if starts_string(value) {
             quoted(alloc, value)?.1
@@ -215,8 +203,8 @@ impl<'a, 'k> Places<'a, 'k> {
         &self,
         alloc: Global,
         part: &'a str,
-        left: Option<&'k str>,
-    ) -> Result<(Option<&'k str>, &'a str), ParseError> {
+        left: Option<&'a str>,
+    ) -> Result<(Option<&'a str>, &'a str), ParseError> {
         if starts_string(part) {
             let (name, after) = quoted(alloc, part)?;
             return Ok((self.left_after_name(left, &name), after));
@@ -226,7 +214,7 @@ impl<'a, 'k> Places<'a, 'k> {
     }
 
     /// Returns what is left of the keys after a name.
-    fn left_after_name(&self, left: Option<&'k str>, name: &str) -> Option<&'k str> {
+    fn left_after_name(&self, left: Option<&'a str>, name: &str) -> Option<&'a str> {
         let left = left?;
         if self.is_cut && left.is_empty() {
             return Some(left);
@@ -251,7 +239,7 @@ pub(crate) fn bare_name(part: &str) -> &str {
 
 /// Returns the document after the value at the front.
 pub(crate) fn after_value(alloc: Global, value: &str) -> Result<&str, ParseError> {
-    let mut places = Places::new(alloc, value, "")?;
+    let mut places = Places::new(alloc, value, "", false)?;
     // The value is passed as an item of an array.
     places.open.push(Open {
         left: None,

@@ -6,9 +6,7 @@ ghost use Rattle.humantime_settings.specs.Marks.{IsErrorIn};
 
 use crate::error::{SettingsError, marked_at};
 use crate::faults::Fault;
-use crate::toml_search::{
-    other_place, table_without, unknown_key, wrong_key, wrong_text, wrong_type,
-};
+use crate::toml_search::Search;
 use serde::{DeserializeOwned, Serialize};
 use std::alloc::{AllocError, Global};
 use toml_parser::ParseError;
@@ -99,7 +97,13 @@ fn located<T: DeserializeOwned>(
     }
     let keys = keys.unwrap_or("");
     let keys = keys.strip_suffix("`\n").unwrap_or(keys);
-    match search::<T>(alloc, text, said, keys) {
+    let search = Search {
+        alloc,
+        text,
+        said,
+        keys,
+    };
+    match search.fault::<T>() {
         Ok(Some(fault)) => Ok(SettingsError::At(marked_at(alloc, text, fault)?)),
         Err(ParseError::OutOfMemory) => Err(AllocError),
         Ok(None) | Err(ParseError::At(..)) => {
@@ -115,51 +119,4 @@ fn with_keys(alloc: Global, said: &str, keys: &str) -> Result<String, AllocError
         return String::from_str(alloc, said);
     }
     format!(in alloc; "{said} in `{keys}`")
-}
-
-/// Returns the fault with the message `said` below these keys.
-fn search<T: DeserializeOwned>(
-    alloc: Global,
-    text: &str,
-    said: &str,
-    keys: &str,
-) -> Result<Option<Fault>, ParseError> {
-    let at = if let Some(name) = name_in(said, "unknown field `") {
-        unknown_key(alloc, text, 0, &joined(alloc, keys, name)?)?
-    } else if let Some(name) = name_in(said, "missing field `") {
-        table_without(alloc, text, &joined(alloc, keys, name)?, name)?
-    } else {
-        if let Some(fault) = wrong_key::<T>(alloc, text, said, keys)? {
-            return Ok(Some(fault));
-        }
-        if let Some(fault) = wrong_text::<T>(alloc, text, said, keys)? {
-            return Ok(Some(fault));
-        }
-        match wrong_type::<T>(alloc, text, said, keys)? {
-            Some(at) => Some(at),
-            None => other_place::<T>(alloc, text, said, keys)?,
-        }
-    };
-    Ok(match at {
-        Some(at) => Some(Fault::at(at, String::from_str(alloc, said)?)),
-        None => None,
-    })
-}
-
-/// Returns the name at the end of a message.
-pub(crate) fn name_in<'a>(said: &'a str, front: &str) -> Option<&'a str> {
-    said.strip_prefix(front)?.strip_suffix('`')
-}
-
-/// Returns the keys of a name in a table.
-pub(crate) fn joined(alloc: Global, table: &str, name: &str) -> Result<String, AllocError> {
-    if table.is_empty() {
-        return String::from_str(alloc, name);
-    }
-    format!(in alloc; "{table}.{name}")
-}
-
-/// Returns the offset in a document of what ends it.
-pub(crate) fn offset_of(document: &str, end: &str) -> usize {
-    document.len().saturating_sub(end.len())
 }
