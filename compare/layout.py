@@ -34,7 +34,6 @@ def options_of(purpose):
     """Returns a parser of the options that both commands have."""
     parser = argparse.ArgumentParser(description=purpose)
     parser.add_argument("crate", type=os.path.abspath, help="the folder of the Rust crate, with its Cargo.toml and its tests")
-    parser.add_argument("--cpu", default="x86-64-v2", help="what cargo builds for; the kit builds for x86-64-v2")
     parser.add_argument("--work", type=os.path.abspath, help="a folder for the builds, which is kept for the next run")
     return parser
 
@@ -45,11 +44,6 @@ def run(command, folder, **environment):
     if done.returncode != 0:
         sys.exit(f"{' '.join(map(str, command))} failed:\n{done.stdout[-5000:]}")
     return done.stdout
-
-
-def table(titles, rows):
-    """Prints a table in Markdown."""
-    print("\n".join(["", f"| {' | '.join(titles)} |", "|---" * len(titles) + "|", *(f"| {' | '.join(row)} |" for row in rows)]), flush=True)
 
 
 @contextlib.contextmanager
@@ -74,17 +68,15 @@ def repository(work):
 
 
 def library(top, backend):
-    """Returns the folder of the static library, the names that it links to, and the processor that it is built for."""
+    """Returns the folder of the static library."""
     crate = top / "crates" / EXPORTS
-    said = run(["rt", "lib", "--backend", backend], crate)
+    run(["rt", "lib", "--backend", backend], crate)
     made = crate / "out" / f"lib{EXPORTS}.a"
     # Named for its content, since cargo links again only if its flags change.
     folder = top / f"{backend}-{hashlib.sha256(made.read_bytes()).hexdigest()[:16]}"
     folder.mkdir(exist_ok=True)
     shutil.copy(made, folder)
-    names = {line.split()[-1] for line in run(["nm", "-u", made], ROOT).splitlines() if " U " in line}
-    cpu = re.search(r"cpu=(\S+)", said)
-    return folder, sorted(names), cpu[1] if cpu else "?"
+    return folder
 
 
 def program(top, name, options, folder, **environment):
@@ -92,8 +84,7 @@ def program(top, name, options, folder, **environment):
     place = top / name
     place.mkdir(exist_ok=True)
     (place / "Cargo.toml").write_text(CARGO.format(name=name, here=HERE, crate=options.crate))
-    # A `String` of the library allocates by functions of the kit's archive.
-    kit = Path(run(["rt", "doc"], ROOT).strip()).parent
-    flags = f"-C target-cpu={options.cpu} -L native={folder} -l static={EXPORTS} -L native={kit}/c -l static=libc_c"
+    # The kit builds for this processor, too.
+    flags = f"-C target-cpu=x86-64-v2 -L native={folder} -l static={EXPORTS}"
     run(["cargo", "build", "--release", "--offline"], place, RUSTFLAGS=flags, **environment)
     return place / "target" / "release" / name

@@ -3,14 +3,13 @@
 
 mod answers;
 mod explained;
-mod library;
-mod rows;
 mod texts;
 
 use answers::*;
-use library::{library_duration_message, library_moment_message, library_print_duration, text_of};
-use rows::{Counts, Row};
+use explained::{Counts, MICRO_SIGN_PRINTED, PANIC_BEFORE_1970, Row};
+use std::fmt::{Debug, Display};
 use std::path::Path;
+use std::process::ExitCode;
 use std::time::Duration;
 use texts::*;
 
@@ -19,61 +18,66 @@ const DAY: u64 = 86_400;
 /// The first second after 1970 that has no printed text.
 const END: i64 = 253_402_300_800;
 
-/// Parses a duration on both sides.
-fn read_duration(counts: &mut Counts, text: &str) {
+/// Parses a text on both sides. The rows are those that explain a difference.
+fn read<T, E>(counts: &mut Counts, parser: &Parser<T, E>, text: &str, rows_of: impl FnOnce(&Caught<T, E>, &Result<T, E>) -> Vec<Row>)
+where
+    T: PartialEq + Debug,
+    E: PartialEq + Debug + Display,
+{
     counts.case();
-    let (by_crate, by_library) = (duration_by_crate(text), duration_by_library(text));
-    if by_crate != by_library || by_crate.is_none() {
-        let rows = by_library.and_then(|answer| explained::duration(text, answer));
-        counts.differs(rows.unwrap_or_default(), || format!("duration {text:?}: the crate {by_crate:?}, the library {by_library:?}"));
-    } else if let Some(messages) = other_messages(text, humantime::parse_duration, library_duration_message) {
-        counts.differs(None, || format!("messages of duration {text:?}: {messages:?}"));
+    let (by_crate, by_library) = (parser.by_crate(text), parser.by_library(text));
+    if by_crate.as_ref() != Ok(&by_library) {
+        let rows = rows_of(&by_crate, &by_library);
+        counts.differs(rows, || format!("{} {text:?}: the crate {by_crate:?}, the library {by_library:?}", parser.name));
+    } else if let Err(error) = by_library {
+        let messages = (error.to_string(), parser.message_by_library(text));
+        if messages.0 != messages.1 && messages.0.len() <= 256 {
+            counts.differs(Vec::new(), || format!("messages of {} {text:?}: {messages:?}", parser.name));
+        }
     }
 }
 
-/// Prints a duration on both sides, and parses both texts on both sides.
-fn print_duration(counts: &mut Counts, secs: u64, nanos: u32) {
-    counts.case();
-    let by_crate = caught(|| humantime::format_duration(Duration::new(secs, nanos)).to_string());
-    let by_library = text_of(|place| library_print_duration(secs, nanos, place));
-    if by_crate.as_ref() != Ok(&by_library) {
-        let with_micro_sign = by_crate.as_ref().map(|text| text.replace("us", "µs"));
-        let row = (with_micro_sign.as_ref() == Ok(&by_library)).then_some(Row::MicroSignPrinted);
-        counts.differs(row, || format!("duration of {secs} s and {nanos} ns: the crate {by_crate:?}, the library {by_library:?}"));
-    }
-    read_duration(counts, &by_library);
+fn read_duration(counts: &mut Counts, text: &str) {
+    read(counts, &DURATION, text, |_, by_library| explained::duration(text, by_library).unwrap_or_default());
 }
 
 /// Parses a timestamp with both parsers on both sides.
 fn read_moment(counts: &mut Counts, text: &str) {
-    if let Some(messages) = other_messages(text, humantime::parse_rfc3339_weak, library_moment_message) {
-        counts.differs(None, || format!("messages of timestamp {text:?}: {messages:?}"));
-    }
     for parser in [STRICT, WEAK] {
-        counts.case();
-        let (by_crate, by_library) = (parser.read_by_crate(text), parser.read_by_library(text));
-        if by_crate.as_ref() != Ok(&by_library) {
-            let answer = by_crate.as_ref().ok();
-            let row = answer.and_then(|answer| explained::moment(text, *answer, by_library));
-            counts.differs(row, || format!("{} {text:?}: the crate {by_crate:?}, the library {by_library:?}", parser.name));
+        read(counts, &parser, text, |by_crate, by_library| explained::moment(text, by_crate, by_library).into_iter().collect());
+    }
+}
+
+/// Prints a duration on both sides, and parses the library's text.
+fn print_duration(counts: &mut Counts, secs: u64, nanos: u32) {
+    let by_crate = printed(|| humantime::format_duration(Duration::new(secs, nanos)));
+    let by_library = text_of(|place| library_print_duration(secs, nanos, place));
+    let with_micro_sign = by_crate.as_ref().map(|text| text.replace("us", "µs"));
+    let row = (with_micro_sign.as_ref() == Ok(&by_library)).then_some(MICRO_SIGN_PRINTED);
+    print(counts, row, &by_crate, &by_library, || format!("duration of {secs} s and {nanos} ns"));
+    read_duration(counts, &by_library);
+}
+
+/// Prints a moment with the five printers on both sides, and parses each text of the library.
+fn print_moment(counts: &mut Counts, secs: i64, nanos: u32) {
+    for (name, format, print_by_library) in PRINTERS {
+        let by_crate = printed(|| format(moment(secs, nanos)));
+        let by_library = text_of(|place| print_by_library(secs, nanos, place));
+        let is_listed = secs < 0 && by_crate.is_err() && by_library.is_empty();
+        let row = is_listed.then_some(PANIC_BEFORE_1970);
+        print(counts, row, &by_crate, &by_library, || format!("{name} of {secs} s and {nanos} ns"));
+        if !by_library.is_empty() {
+            read_moment(counts, &by_library);
         }
     }
 }
 
-/// Prints a moment with the five printers on both sides, and parses each text with both parsers on both sides.
-fn print_moment(counts: &mut Counts, secs: i64, nanos: u32) {
-    for printer in &PRINTERS {
-        counts.case();
-        let (by_crate, by_library) = (printer.print_by_crate(secs, nanos), printer.print_by_library(secs, nanos));
-        if by_crate.as_ref() != Ok(&by_library) {
-            let is_listed = secs < 0 && by_crate.is_err() && by_library.is_empty();
-            counts.differs(is_listed.then_some(Row::PanicBefore1970), || {
-                format!("{} of {secs} s and {nanos} ns: the crate {by_crate:?}, the library {by_library:?}", printer.name)
-            });
-        }
-        if !by_library.is_empty() {
-            read_moment(counts, &by_library);
-        }
+/// Compares two printed texts, whose difference this row lists, if there is one.
+fn print(counts: &mut Counts, row: Option<Row>, by_crate: &Result<String, String>, by_library: &String, value: impl FnOnce() -> String) {
+    counts.case();
+    if by_crate.as_ref() != Ok(by_library) {
+        let rows = row.into_iter().collect();
+        counts.differs(rows, || format!("{}: the crate {by_crate:?}, the library {by_library:?}", value()));
     }
 }
 
@@ -194,7 +198,7 @@ fn timestamps_printed(counts: &mut Counts) {
     few.chain((0..10_000).map(|part| part * 99_991)).for_each(|nanos| print_moment(counts, 1_330_473_600, nanos));
 }
 
-fn main() {
+fn main() -> ExitCode {
     let folder = std::env::args().nth(1).expect("the crate's folder");
     std::panic::set_hook(Box::new(|_| {}));
     let mut counts = Counts::default();
@@ -203,5 +207,5 @@ fn main() {
     durations_printed(&mut counts);
     timestamps_parsed(&mut counts);
     timestamps_printed(&mut counts);
-    counts.tell();
+    ExitCode::from(u8::from(!counts.tell()))
 }

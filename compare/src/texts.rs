@@ -1,5 +1,7 @@
 //! The texts that both sides parse.
 
+#![allow(dead_code)] // `bench` only draws numbers.
+
 use std::collections::BTreeSet;
 use std::path::Path;
 
@@ -105,23 +107,10 @@ pub fn texts_of_crate(folder: &Path) -> BTreeSet<String> {
 
 /// Adds the string literals in the line. A literal of several lines is taken line by line.
 fn quoted(line: &str, found: &mut BTreeSet<String>) {
-    let (mut letters, mut open) = (line.chars(), None::<String>);
-    while let Some(letter) = letters.next() {
-        match (letter, &mut open) {
-            ('"', None) => open = Some(String::new()),
-            ('"', Some(_)) => found.extend(open.take()),
-            ('\\', Some(text)) => match letters.next() {
-                Some('0') => text.push('\0'),
-                Some('n') => text.push('\n'),
-                Some('r') => text.push('\r'),
-                Some('t') => text.push('\t'),
-                other => text.extend(other),
-            },
-            (_, Some(text)) => text.push(letter),
-            _ => {}
-        }
+    let escapes = [("\\0", "\0"), ("\\n", "\n"), ("\\r", "\r"), ("\\t", "\t"), ("\\", ""), ("\u{1}", "\"")];
+    for text in line.replace("\\\"", "\u{1}").split('"').skip(1).step_by(2) {
+        found.insert(escapes.iter().fold(text.to_string(), |text, (escape, meant)| text.replace(escape, meant)));
     }
-    found.extend(open);
 }
 
 /// The words of each unit, and its length in nanoseconds or seconds.
