@@ -123,10 +123,6 @@ def builds(crate):
 
 
 def finish(script, passed, failed):
-    """Prints what failed, if it is given as a list and not as a number, and the last line. Exits with status 0 if something passed and
-    nothing failed."""
-    if not isinstance(failed, int):
-        print("".join(f"{line}\n" for line in failed), end="")
-        failed = len(failed)
-    print(f"{script}: {passed} passed, {failed} failed")
+    """Prints what failed, and the last line. Exits with status 0 if something passed and nothing failed."""
+    print(*failed, f"{script}: {passed} passed, {len(failed)} failed", sep="\n")
     sys.exit(1 if failed or not passed else 0)
