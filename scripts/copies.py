@@ -1,19 +1,18 @@
-"""What the scripts share: files, edits, copies of the repository, commands, what passed before, `--help`, and a script's last line."""
-import os
+"""What the scripts share: files, copies of the repository, commands, `--help`, and a script's last line."""
 import re
 import shutil
 import subprocess
 import sys
 import tempfile
-from hashlib import sha256
 from pathlib import Path
 
 ROOT = Path(__file__).resolve().parent.parent
 CRATES = ROOT / "crates"
-# What each crate stands on.
+# What each crate stands on; and the crates of the repository below each, which stand above it in crates.txt, with itself.
 STANDS_ON = {name: others.split() for name, others in re.findall(r"^(\w+):(.*)", (ROOT / "crates.txt").read_text(encoding="utf-8"), re.M)}
-# What passed on this machine, by the checksum of all that it read.
-PASSED = Path(os.environ.get("XDG_CACHE_HOME") or Path.home() / ".cache", "humantime")
+BELOW = {}
+for name, others in STANDS_ON.items():
+    BELOW[name] = {name}.union(*(BELOW.get(other, ()) for other in others))
 
 if {"--help", "-h"} & set(sys.argv[1:]):
     print(sys.modules["__main__"].__doc__)
@@ -32,60 +31,19 @@ def write(text, *path):
     path.write_text(text, encoding="utf-8")
 
 
-def edited(crate, edit):
-    """Returns the files that an edit of a crate changes, by their paths in the crate. The edit has the form of those in must-fail/: lines
-    `file: PATH`, and pairs of lines `old: TEXT` and `new: TEXT`. Each old text occurs once in its file, as the pairs before changed it."""
-    texts, path, old = {}, None, None
-    for word, said in re.findall(r"^(file|old|new):(?: (.*))?$", edit, re.M):
-        if word == "file":
-            path = said
-        elif word == "old":
-            old = said
-        else:
-            text = texts[path] if path in texts else read("crates", crate, path)
-            if text.count(old) != 1:
-                sys.exit(f"{crate}/{path} has {text.count(old)} times: {old}")
-            texts[path] = text.replace(old, said)
-    return texts or sys.exit(f"this edit of {crate} changes nothing: {edit}")
-
-
 def room(script):
     """Creates a folder, which is removed after a `with` block."""
     return tempfile.TemporaryDirectory(prefix=f"{script}-")
 
 
-def below(*crates):
-    """Returns these crates of the repository with those that they stand on."""
-    found = set(crates)
-    for crate in crates:
-        found |= below(*(other for other in STANDS_ON[crate] if other in STANDS_ON))
-    return found
-
-
-def copied(to, crates=tuple(STANDS_ON), without=("must-fail", "out", "tests")):
-    """Copies the parts of the repository that `rt` reads, with these crates and those that they stand on, but without the files and folders
-    of the names in `without`. Returns the new folder."""
-    to = Path(to)
-    lines = [f"{name}: {' '.join(STANDS_ON[name])}\n" for name in sorted(below(*crates))]
-    write("".join(lines), to, "crates.txt")
+def copied(to, crates):
+    """Copies what `rt` reads of these crates and of those that they stand on, but no wrong bodies and tests. Returns the new folder."""
+    to, crates = Path(to), sorted(set().union(*(BELOW[name] for name in crates)))
+    write("".join(f"{name}: {' '.join(STANDS_ON[name])}\n" for name in crates), to, "crates.txt")
     shutil.copy(ROOT / "HANDLES", to)
-    for name in below(*crates):
-        shutil.copytree(CRATES / name, to / "crates" / name, ignore=shutil.ignore_patterns(*without))
+    for name in crates:
+        shutil.copytree(CRATES / name, to / "crates" / name, ignore=shutil.ignore_patterns("must-fail", "out", "tests"))
     return to
-
-
-def once(crates, attempt, *given):
-    """Returns the failures of an attempt that reads these crates, those below them and what is given. It is not made again if it passed on
-    this machine with the same of all these, the script, what scripts share, and the kit. `--anew` makes it."""
-    paths = [path for name in below(*crates) for path in (CRATES / name).rglob("*") if path.is_file() and "out" not in path.parts]
-    paths = [path for path in paths if path.suffix != ".md"] + [*ROOT.glob("scripts/*.py"), Path(sys.argv[0]).resolve()]
-    sums = [(str(path.relative_to(ROOT)), sha256(path.read_bytes()).hexdigest()) for path in sorted(paths)]
-    read_too = run("rt", "version").stdout, attempt.__name__, given, [STANDS_ON[name] for name in sorted(below(*crates))]
-    mark = PASSED / sha256(repr((read_too, sums)).encode()).hexdigest()
-    failed = [] if mark.exists() and "--anew" not in sys.argv else attempt(*given)
-    if not failed:
-        write("", mark)
-    return failed
 
 
 def tests_of(crate, folder, module, old="crate::"):
@@ -109,9 +67,9 @@ def run(*command, **options):
     return subprocess.run(command, **how | options)
 
 
-def rt(top, crate, *words, given=""):
-    """Runs `rt` in the folder of a crate, with this text on standard input."""
-    return run("rt", *words, cwd=Path(top, "crates", crate), input=given)
+def rt(top, crate, *words):
+    """Runs `rt` in the folder of a crate."""
+    return run("rt", *words, cwd=Path(top, "crates", crate))
 
 
 def builds(crate):
