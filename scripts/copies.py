@@ -46,18 +46,18 @@ def copied(to, crates):
     return to
 
 
-def tests_of(crate, folder, module, old="crate::"):
-    """Copies the tests of a crate into a folder, for a module of this path, and writes the module. The root of the tests is `lib.rs`."""
+def tests_of(crate, folder, old, new):
+    """Copies the tests of a crate as the module of this folder, with a text replaced. Their root is `lib.rs`."""
     top, folder = CRATES / crate / "tests", Path(folder)
     for path in top.rglob("*.rs"):
-        text = read(path).replace(old, f"{module}{old.removeprefix('crate')}").replace("#![tactic(auto)]\n", "")
-        write(text, folder.with_suffix(".rt") if path.name == "lib.rs" else folder / path.relative_to(top).with_suffix(".rt"))
+        to = folder.with_suffix(".rt") if path.name == "lib.rs" else folder / path.relative_to(top).with_suffix(".rt")
+        write(read(path).replace("#![tactic(auto)]\n", "").replace(old, new), to)
 
 
 def with_tests(top, crate):
     """Makes the tests of a program a module of its copy."""
     source = Path(top, "crates", crate, "src")
-    tests_of(crate, source / "tests_unproved", "crate::tests_unproved", "crate::support")
+    tests_of(crate, source / "tests_unproved", "crate::support", "crate::tests_unproved::support")
     write(f"{read(source, 'main.rt')}\n#[cfg(test)]\nmod tests_unproved;\n", source, "main.rt")
 
 
