@@ -178,7 +178,7 @@ fn days_before_month(year: u32, month: u32) -> u32
 
 /// Returns the number of days from 1970-01-01 to `date`, or `None` if the date does not exist in 1970 to 9999.
 ///
-/// A formula counts the leap days before the year, and a table has the days before each month. `turns` shows that there is no loop: it stays
+/// A formula counts the leap days before the year, and a table contains the days before each month. There is no loop, so `turns` is
 /// unchanged.
 ///
 /// # Examples

@@ -1,4 +1,4 @@
-//! [`Duration`] and [`Timestamp`], which wrap [`StdDuration`] and [`SystemTime`] to parse and print them. Built on `duration` and `date`.
+//! [`Duration`] and [`Timestamp`], which wrap [`StdDuration`] and [`SystemTime`] to parse and print them.
 
 ghost use Rattle.std.specs.Prelude.{◌≡◌, Some};
 ghost use Rattle.humantime.specs.Prelude.{IsDurationAnswer};

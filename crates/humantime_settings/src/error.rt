@@ -38,11 +38,11 @@ use std::fmt::{self, InlineText};
 /// ```
 #[derive(Debug, Drop, PartialEq, Eq)]
 pub enum SettingsError {
-    /// Memory was refused.
+    /// An allocation failed.
     OutOfMemory,
-    /// A fault at a place in the text.
+    /// An error at a known position.
     At(Marked),
-    /// What is wrong at no place that is known, such as below long keys in TOML, or with a value that has no text.
+    /// The message of an error whose position is not known, such as one below long keys in TOML, or of a value that cannot be written.
     Whole(String),
 }
 

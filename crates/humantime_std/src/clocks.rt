@@ -75,7 +75,8 @@ pub fn elapsed(clock: &impl Clock, start: Instant) -> io::Result<StdDuration>
     Ok(time_left(start, Instant::now(clock)?))
 }
 
-/// Returns the end of a time limit that begins at `now`, or `None` if the clock of std ends before it: 2^63 seconds after its start.
+/// Returns the end of a time limit that begins at `now`, or `None` if it is too late for an `Instant`, which is less than 2^63 seconds
+/// after the start of std's clock.
 ///
 /// # Examples
 ///

@@ -24,7 +24,7 @@ const NANOS_PER_SECOND: u32 = 1_000_000_000;
 /// assert_eq!(rt; time.checked_sub(parse_duration("1h")?), Some(hour_before));
 /// ```
 pub trait SystemTimeExt: Sized {
-    /// Converts a time of std, or returns `None` if it is 2^63 seconds after 1970 or later. No clock of std returns such a time.
+    /// Converts a time of std, or returns `None` if it is 2^63 seconds or more after 1970. No clock of std returns such a time.
     ///
     /// # Examples
     ///
@@ -38,7 +38,7 @@ pub trait SystemTimeExt: Sized {
     /// ```
     fn from_std(time: time::SystemTime) -> Option<Self>;
 
-    /// Converts this time to one of std, or returns `None` if it is before 1970. A `SystemTime` of std is never that early in Rattle.
+    /// Converts this time to one of std, or returns `None` if it is before 1970, where std's `SystemTime` begins in Rattle.
     ///
     /// # Examples
     ///
@@ -102,9 +102,10 @@ impl SystemTimeExt for SystemTime {
     }
 }
 
-/// Returns when a job runs next: the first of the times `last + every`, `last + 2 * every` and so on that is not before `now`.
+/// Returns when a job runs next: the first of the times `last + every`, `last + 2 * every` and so on that is not before `now`, or `None`
+/// if no `SystemTime` is such a time.
 ///
-/// Returns `None` if no `SystemTime` is such a time. With a period of zero, the only run is at `last`.
+/// If `every` is zero, the only run is at `last`, so the result is `None` for a later `now`.
 ///
 /// # Examples
 ///

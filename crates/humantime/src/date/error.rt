@@ -23,10 +23,11 @@ pub enum TimestampError {
     OutOfRange,
     /// A byte is not a digit where one is expected.
     InvalidDigit,
-    /// The text does not have the form of a timestamp.
+    /// The string does not have the format of a timestamp.
     InvalidFormat,
 }
 
+/// Writes the message. Width, fill and alignment are ignored.
 impl fmt::Display for TimestampError {
     ghost use Rattle.std.specs.Prelude.{Some};
     ghost use Rattle.humantime.specs.Timestamps.{timestamp_message};

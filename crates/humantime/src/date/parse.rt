@@ -56,15 +56,14 @@ struct DateTime {
 ///
 /// # Errors
 ///
-/// Returns the error of the first of these checks that fails. Bytes are counted from 0.
+/// - [`InvalidFormat`](TimestampError::InvalidFormat): the string has fewer than 19 bytes; a `-`, `T`, space or `:` is missing from its
+///   place; or the seconds are followed neither by a point nor by exactly nothing, `Z` or `+00:00`.
+/// - [`InvalidDigit`](TimestampError::InvalidDigit): another of the first 19 bytes is not a digit; or a point after the seconds is followed
+///   by something other than digits and then nothing, `Z` or `+00:00`.
+/// - [`OutOfRange`](TimestampError::OutOfRange): the date does not exist in the years 1970 to 9999, the hour is above 23, the minute
+///   above 59, or the second above 60.
 ///
-/// - [`InvalidFormat`](TimestampError::InvalidFormat) if the text has fewer than 19 bytes;
-/// - `InvalidFormat` if a `-` (bytes 4 and 7), the `T` or space (byte 10) or a `:` (bytes 13 and 16) is missing;
-/// - [`InvalidDigit`](TimestampError::InvalidDigit) if any other byte up to byte 18 is not a digit;
-/// - [`OutOfRange`](TimestampError::OutOfRange) if the date does not exist in the years 1970 to 9999, the hour is above 23, the minute
-///   above 59 or the second above 60;
-/// - `InvalidFormat` if the text from byte 19 on does not begin with a point and is neither empty nor `Z` nor `+00:00`;
-/// - `InvalidDigit` if byte 19 is a point and the text after it, up to a `Z` or `+00:00` at its end, has a byte that is not a digit.
+/// If several apply, the checks are in this order: the length, the separators, the digits, the ranges, and what follows the seconds.
 ///
 /// # Examples
 ///

@@ -46,8 +46,8 @@ pub enum DurationError<'a> {
     /// up to minutes) or of seconds (for hours and longer units). The product of these digits, as an integer, and the size of the unit in
     /// nanoseconds or seconds must also fit in a `u64`.
     ///
-    /// The product of a number and its unit is in nanoseconds for units up to milliseconds, and otherwise in seconds. In nanoseconds, it
-    /// overflows if the sum of it and of what the earlier spans have below a second does not fit in a `u64`.
+    /// The product of a number and its unit is in nanoseconds for units up to milliseconds, and otherwise in seconds. A product in
+    /// nanoseconds, plus the nanoseconds of the earlier spans below a second, must also fit in a `u64`.
     NumberOverflow,
     /// The text is empty or consists of whitespace only.
     Empty,

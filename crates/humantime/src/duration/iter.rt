@@ -1,4 +1,4 @@
-//! [`SpanIter`], the iterator over the spans of a text, built on `read_span`.
+//! [`SpanIter`], the iterator over the spans of a string.
 
 ghost use Rattle.std.proofs.Props.{props};
 ghost use Rattle.humantime.specs.StepsOfParts.{IsTail};

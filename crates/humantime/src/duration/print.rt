@@ -1,5 +1,4 @@
-//! Prints durations: [`format_duration`], [`FormattedDuration`] and [`canonical`], built on `Writer`. The crate `itoa` writes the
-//! numbers.
+//! Prints durations: [`format_duration`], [`FormattedDuration`] and [`canonical`].
 
 ghost use Rattle.std.specs.Prelude.{◌≡◌, ◌<◌, ◌≤◌, ◌+◌, ◌==◌, if◌then◌else◌, codes, [], ◌∷◌, length, take, decimal, ◌↔◌, ℕ, List, chars};
 ghost use Rattle.std.specs.Prelude.{IfOk, IfErr, OnErr, Ok, Some};

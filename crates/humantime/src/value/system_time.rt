@@ -68,7 +68,7 @@ impl Model for SystemTime {
 
 /// The error returned by [`SystemTime::duration_since`] if `earlier` is later than the time.
 ///
-/// It holds the duration from the time to `earlier`. Contracts see it as that number of nanoseconds; equality is that of this number.
+/// It holds the duration from the time to `earlier`. Contracts see it as a number of nanoseconds, and two errors are equal if these are.
 /// Unlike the error of `std::time`, it has no message: it implements neither `Display` nor `Error`.
 ///
 /// # Examples
