@@ -1,7 +1,7 @@
 //! Parses and prints durations such as `2h 37m`.
 //!
 //! The modules, each after those that it uses: `error`, `amount` (what a span adds), `span`, `scan` (which reads one), `iter` (all spans),
-//! `parse` (a whole text) and `print`.
+//! `parse` (a whole string) and `print`.
 
 mod amount;
 mod error;

@@ -35,10 +35,10 @@ pub fn one_date(day: u32)
     ensures within { (d : Date) → IsDateOfDay day d → day ≤ 2_932_896 }
 {}
 
-/// States that a text has exactly one value or exactly one first error, and at most one list of spans.
+/// States that a string has exactly one value or exactly one first error, and at most one list of spans.
 ///
 /// It also has exactly one list of items: its spans, and the error at which they end, if any. The result of parsing, as a function
-/// of the text, is that value or that error.
+/// of the string, is that value or that error.
 ///
 /// # Examples
 ///
@@ -54,11 +54,12 @@ pub fn one_outcome(s: &str)
     ensures { HasOneOutcome (chars s.now) }
 {}
 
-/// States that the items that [`spans`](crate::spans) yields determine the value or the error of a text, unless the text is exactly `0`.
+/// States that the items that [`spans`](crate::spans) yields determine the value or the error of a string, unless the string is exactly
+/// `0`.
 ///
-/// If the spans are within the limits, the text denotes their sum, or has the error at which they end, if any. If they break a limit,
+/// If the spans are within the limits, the string denotes their sum, or has the error at which they end, if any. If they break a limit,
 /// the error is [`NumberOverflow`](crate::DurationError::NumberOverflow), whatever follows them. So if the first item is an error, it is
-/// the text's first error.
+/// the string's first error.
 ///
 /// # Examples
 ///
@@ -76,11 +77,12 @@ pub fn spans_decide(s: &str)
     ensures { ItemsDecide (chars s.now) }
 {}
 
-/// States that [`spans`](crate::spans) yields exactly one list of items for a text, and that their slices follow each other in the text.
+/// States that [`spans`](crate::spans) yields exactly one list of items for a string, and that their slices follow each other in the
+/// string.
 ///
 /// Up to the end of the last span and of the whitespace after it, each character lies in exactly one slice (a number, a fraction or a
-/// unit), or in none and is whitespace or a point. If no item is an error, that is the whole text. Two iterations over a text return the
-/// same slices.
+/// unit), or in none and is whitespace or a point. If no item is an error, that is the whole string. Two iterations over a string return
+/// the same slices.
 ///
 /// # Examples
 ///
@@ -98,7 +100,7 @@ pub fn spans_tile(s: &str)
     ensures { ItemsTile (chars s.now) }
 {}
 
-/// States that an accepted text is still accepted without its whitespace, with the same value.
+/// States that an accepted string is still accepted without its whitespace, with the same value.
 ///
 /// # Examples
 ///
@@ -114,11 +116,11 @@ pub fn without_ws(s: &str)
     ensures { KeepsValueWithoutWhitespace (chars s.now) }
 {}
 
-/// States that the concatenation of two accepted texts, neither of them `0`, is accepted with the sum of their values, unless an
+/// States that the concatenation of two accepted strings, neither of them `0`, is accepted with the sum of their values, unless an
 /// addition overflows.
 ///
-/// The additions of the second text's spans follow those of the first's. The sum overflows if and only if one of these additions does;
-/// the error is then [`NumberOverflow`](crate::DurationError::NumberOverflow). An accepted text other than `0` consists of spans, so the
+/// The additions of the second string's spans follow those of the first's. The sum overflows if and only if one of these additions does;
+/// the error is then [`NumberOverflow`](crate::DurationError::NumberOverflow). An accepted string other than `0` consists of spans, so the
 /// statements about spans apply to it.
 ///
 /// # Examples
@@ -136,9 +138,9 @@ pub fn joined(a: &str, b: &str)
     ensures text { chars (a.now ++ b.now) ≡ chars a.now ++ chars b.now }
 {}
 
-/// States that two accepted texts whose spans are reorderings of each other have equal values.
+/// States that two accepted strings whose spans are reorderings of each other have equal values.
 ///
-/// A reordering of an accepted text may overflow. The text `0` has no spans, so the law does not apply to it.
+/// A reordering of an accepted string may overflow. The string `0` has no spans, so the law does not apply to it.
 ///
 /// # Examples
 ///
@@ -159,7 +161,7 @@ pub fn reordered(a: &str, b: &str)
     ensures { KeepValueReordered (chars a.now) (chars b.now) }
 {}
 
-/// States that a text accepted by an earlier rule, under which trailing zeros counted, is still accepted with the same value.
+/// States that a string accepted by an earlier rule, under which trailing zeros counted, is still accepted with the same value.
 ///
 /// Under that rule, trailing zeros counted towards the 19 digits that a fraction may have and towards its precision, and nanoseconds
 /// had no fraction at all. What a span adds is the same under both rules.
@@ -179,7 +181,7 @@ pub fn still_accepted(s: &str)
     ensures { KeepsValueWithZeros (chars s.now) }
 {}
 
-/// States that a duration has exactly one canonical text, which is the printed text and parses to the duration.
+/// States that a duration has exactly one canonical string, which is the printed string and parses to the duration.
 ///
 /// # Examples
 ///
@@ -197,7 +199,7 @@ pub fn printed_duration_reads(d: StdDuration)
     ensures { PrintsAndReads d }
 {}
 
-/// States that two durations have equal canonical texts if and only if they are equal.
+/// States that two durations have equal canonical strings if and only if they are equal.
 ///
 /// # Examples
 ///
@@ -214,7 +216,7 @@ pub fn printed_durations_differ(a: StdDuration, b: StdDuration)
     ensures { TextsTellApart a b }
 {}
 
-/// States that a canonical text has at most 64 bytes, and counts at most 11 months and 30 days.
+/// States that a canonical string has at most 64 bytes, and counts at most 11 months and 30 days.
 ///
 /// # Examples
 ///
@@ -233,9 +235,10 @@ pub fn printed_bounds(d: StdDuration)
     ensures { IsBounded d }
 {}
 
-/// States that an accepted text has a canonical text, which parses to the same duration and is its own canonical text.
+/// States that an accepted string has a canonical string, which parses to the same duration and is its own canonical string.
 ///
-/// It also states that the result of [`canonical`](crate::canonical), as a function of the text, is this canonical text or the first error.
+/// It also states that the result of [`canonical`](crate::canonical), as a function of the string, is this canonical string or the first
+/// error.
 ///
 /// # Examples
 ///
@@ -252,9 +255,9 @@ pub fn canonical_again(s: &str)
     ensures { IsCanonicalAgain s.now }
 {}
 
-/// States that the strict form is the weak one with a `T` between the date and the time, and a zone at the end.
+/// States that the strict format is the weak one with a `T` between the date and the time, and a zone at the end.
 ///
-/// So the strict parser returns a time if and only if the weak parser returns it and the text has both.
+/// So the strict parser returns a time if and only if the weak parser returns it and the string has both.
 ///
 /// # Examples
 ///
@@ -274,9 +277,9 @@ pub fn strict_is_weak(s: &str)
     ensures { IsWeakAndMarked s.now }
 {}
 
-/// States that each text has exactly one outcome for each parser, a time or an error, which is what the parser returns.
+/// States that each string has exactly one outcome for each parser, a time or an error, which is what the parser returns.
 ///
-/// A text represents a date and a time if and only if no check fails, and then only one of each.
+/// A string represents a date and a time if and only if no check fails, and then only one of each.
 ///
 /// # Examples
 ///
@@ -292,9 +295,9 @@ pub fn one_stamp_outcome(s: &str)
     ensures strict { HasOneTimestamp (strict_checks s.now) (IsStrict s.now) (strict_answer s.now) }
 {}
 
-/// States that a time from 1970 to 9999 has exactly one printed text, which both parsers parse back.
+/// States that a time from 1970 to 9999 has exactly one printed string, which both parsers parse back.
 ///
-/// They return the time truncated to the printed digits. `Display` writes this text.
+/// They return the time truncated to the printed digits. `Display` writes this string.
 ///
 /// # Examples
 ///
@@ -315,7 +318,7 @@ pub fn printed_moment_reads(x: &Rfc3339Timestamp)
     ensures { MomentPrintsAndReads x.now.moment x.now.places }
 {}
 
-/// States that printed texts with the same number of digits are ordered, as bytes, like their times rounded down to these digits.
+/// States that printed strings with the same number of digits are ordered, as bytes, like their times truncated to these digits.
 ///
 /// # Examples
 ///

@@ -110,7 +110,7 @@ impl From<Duration> for StdDuration {
     }
 }
 
-/// Writes the text that `Display` writes for the value that [`format_duration`] returns.
+/// Writes the string that `Display` writes for the value that [`format_duration`] returns.
 impl fmt::Display for Duration {
     ghost use Rattle.std.specs.Prelude.{Some};
     ghost use Rattle.humantime.specs.DurationResults.{duration_text};
@@ -168,7 +168,7 @@ impl Timestamp {
     }
 }
 
-/// Parses a timestamp in the weak form, as [`parse_rfc3339_weak`] does, with the same errors.
+/// Parses a timestamp in the weak format, as [`parse_rfc3339_weak`] does, with the same errors.
 ///
 /// # Examples
 ///
@@ -209,7 +209,7 @@ impl From<Timestamp> for SystemTime {
     }
 }
 
-/// Writes the text that `Display` writes for the value that [`format_rfc3339`] returns.
+/// Writes the string that `Display` writes for the value that [`format_rfc3339`] returns.
 ///
 /// For a time outside 1970 to 9999, it returns `fmt::Error` and writes nothing.
 impl fmt::Display for Timestamp {

@@ -1,4 +1,4 @@
-//! The error of settings, and the place of a fault in a text.
+//! The error of settings, and its position in a string.
 
 ghost use Rattle.std.specs.Prelude.{◌≡◌, ◌+◌, IfOk, chars, count_by, length, string_bytes};
 ghost use Rattle.std.specs.List.{after_last, before_first};
@@ -47,7 +47,7 @@ pub enum SettingsError {
 }
 
 impl SettingsError {
-    /// Returns the line number of the fault, from 1, or `None` if it has no place.
+    /// Returns the line number of the error, from 1, or `None` if it has no position.
     ///
     /// # Examples
     ///
@@ -68,7 +68,7 @@ impl SettingsError {
         }
     }
 
-    /// Returns the column of the fault, in characters from 1, or `None` if it has no place.
+    /// Returns the column of the error, in characters from 1, or `None` if it has no position.
     ///
     /// # Examples
     ///
@@ -89,7 +89,7 @@ impl SettingsError {
         }
     }
 
-    /// Returns what is wrong, without the place.
+    /// Returns the message, without the position.
     ///
     /// # Examples
     ///
@@ -112,7 +112,7 @@ impl SettingsError {
     }
 }
 
-/// A fault at a place in a text, with the line that has it in three parts: `before`, `marked` and `after`.
+/// An error at a position in a string, with the line that has it in three parts: `before`, `marked` and `after`.
 ///
 /// A later version may add fields.
 ///
@@ -135,13 +135,13 @@ impl SettingsError {
 #[derive(Debug, Drop, PartialEq, Eq)]
 #[non_exhaustive]
 pub struct Marked {
-    /// The byte offset in the text.
+    /// The byte offset in the string.
     pub at: usize,
     /// The line number, from 1.
     pub line: usize,
-    /// The line up to the fault.
+    /// The line up to the error.
     pub before: String,
-    /// The part of the line that is wrong. It is empty if something is missing there, or if only the start of the fault is known.
+    /// The part of the line that is wrong. It is empty if something is missing there, or if only the start of the error is known.
     pub marked: String,
     /// The line after this part.
     pub after: String,
@@ -150,7 +150,7 @@ pub struct Marked {
 }
 
 impl Marked {
-    /// Returns the column of the fault, in characters from 1.
+    /// Returns the column of the error, in characters from 1.
     ///
     /// # Examples
     ///
@@ -182,10 +182,10 @@ const LONG: usize = 500;
 /// The greatest length of such a line with its escapes: that of a byte has at most six.
 const LONG_ESCAPED: usize = 3000;
 
-/// Writes what is wrong. A fault at a place comes with its line and column in front of it and, unless the line has over 500 bytes, with
-/// the line and a mark under the fault behind it: `^` under each column of what is wrong, or one where only the place is known. A control
-/// character of the line or the message, but for a tab, is written as an escape such as `\u{1b}`, so that none of the text is a command to
-/// a terminal.
+/// Writes the message. An error at a position begins with its line and column and, unless the line has over 500 bytes, ends with
+/// the line and a caret line: `^` under each column of what is wrong, or one where only the position is known. A control
+/// character of the line or the message, but for a tab, is written as an escape such as `\u{1b}`, so that none of the string is a command
+/// to a terminal.
 ///
 /// # Examples
 ///

@@ -1,4 +1,4 @@
-//! Fields and items that are written as text.
+//! Fields and items that are written as strings.
 
 ghost use Rattle.std.specs.Prelude.{◌≡◌, List, ℕ, Ok, OnOk, IfOk, IfErr, MatchOption, chars, string_bytes};
 ghost use Rattle.std.specs.Duration.{as_nanos};
@@ -21,14 +21,15 @@ use std::alloc::Global;
 use std::collections::BTreeMap;
 use std::time;
 
-/// Writes a field as the canonical text of its value, or as no value if it is `None`, such as `null` in JSON. A list or a map is written
-/// with such a text for each of its values. What is written is read back as the same value.
+/// Writes a field as the canonical string of its value, or as no value if it is `None`, such as `null` in JSON. A list or a map is written
+/// with such a string for each of its values. What is written is read back as the same value.
 ///
 /// The derive of `Serialize` calls it for a field that is marked with `#[serde(with = "humantime_settings")]`.
 ///
 /// # Errors
 ///
-/// Returns an error of the format if a timestamp is not from 1970 to 9999, if the format cannot write the text, or if memory is refused.
+/// Returns an error of the format if a timestamp is not from 1970 to 9999, if the format cannot write the string, or if an allocation
+/// fails.
 ///
 /// # Examples
 ///
@@ -56,16 +57,17 @@ pub fn serialize<T: Field, S: Serializer>(value: &T, out: &mut S) -> Result<(), 
     value.write(out)
 }
 
-/// Reads a field from a text, which `parse_duration` or `parse_rfc3339_weak` of `humantime` parses, or from a list or a map of such texts.
-/// An `Option` is `None` if the format has no value there. Of equal keys of a map, the last one counts.
+/// Reads a field from a string, which `parse_duration` or `parse_rfc3339_weak` of `humantime` parses, or from a list or a map of such
+/// strings. An `Option` is `None` if the format has no value there. Of equal keys of a map, the last one counts.
 ///
 /// The derive of `Deserialize` calls it for a field that is marked with `#[serde(with = "humantime_settings")]`.
 ///
 /// # Errors
 ///
-/// Returns an error of the format with the message `expected a duration in quotes` or `expected a timestamp in quotes` if there is no text,
-/// one with the message of `humantime` if there is another text, and one of its own if there is no list or map, or if memory is refused.
-/// The formats cut a message at 80 bytes or less; [`from_json`](crate::from_json) and [`from_toml`](crate::from_toml) have the whole.
+/// Returns an error of the format with the message `expected a duration in quotes` or `expected a timestamp in quotes` if there is no
+/// string, one with the message of `humantime` if there is another string, and one of its own if there is no list or map, or if an
+/// allocation fails. The formats cut a message at 80 bytes or less; [`from_json`](crate::from_json) and [`from_toml`](crate::from_toml)
+/// have the whole.
 ///
 /// # Examples
 ///

@@ -1,4 +1,4 @@
-//! Settings in JSON, and the place of a fault in them.
+//! Settings in JSON, and the position of an error in them.
 
 ghost use Rattle.std.specs.Prelude.{◌≡◌, ◌≢◌, [], Err, IfErr, IfOk, Some, false, string_bytes};
 ghost use Rattle.json.specs.Layout.{pretty};
@@ -16,8 +16,8 @@ use std::alloc::{AllocError, Global};
 ///
 /// # Errors
 ///
-/// Returns [`SettingsError::At`] with the first fault, and [`SettingsError::OutOfMemory`] if memory is refused. A text that is no
-/// duration or timestamp is marked where it is wrong, and any other value at its start. An unknown key, or one that stands twice, is
+/// Returns [`SettingsError::At`] with the first error, and [`SettingsError::OutOfMemory`] if an allocation fails. A string that is no
+/// duration or timestamp is marked where it is wrong, and any other value at its start. An unknown key, or a duplicate one, is
 /// marked at its start, and a missing one where its object ends.
 ///
 /// # Examples
@@ -51,7 +51,7 @@ pub fn from_json<'a, T: Deserialize<'a>>(alloc: Global, text: &'a str) -> Result
 /// # Errors
 ///
 /// Returns [`SettingsError::Whole`] if a value cannot be written, such as a timestamp that is not from 1970 to 9999, and
-/// [`SettingsError::OutOfMemory`] if memory is refused.
+/// [`SettingsError::OutOfMemory`] if an allocation fails.
 ///
 /// # Examples
 ///

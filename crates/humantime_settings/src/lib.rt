@@ -1,4 +1,4 @@
-//! Settings with durations and timestamps as text: `serde` reads and writes them in JSON, TOML or another format, and an error shows its
+//! Settings with durations and timestamps as strings: `serde` reads and writes them in JSON, TOML or another format, and an error shows its
 //! place.
 //!
 //! - [`#[serde(with = "humantime_settings")]`](Field) marks a field of a type that derives `Serialize` or `Deserialize`: a duration, a
@@ -6,8 +6,8 @@
 //!   be `None` if it is missing.
 //! - [`AsText`] is the key of a map, or an item of another collection.
 //! - [`from_json`] and [`from_toml`] read settings. Their error, [`SettingsError`], has the line, the column, the whole message of
-//!   `humantime`, and a mark under the fault.
-//! - [`to_json`] and [`to_toml`] write settings, each value as its canonical text.
+//!   `humantime`, and a mark under the error.
+//! - [`to_json`] and [`to_toml`] write settings, each value as its canonical string.
 //!
 //! # Examples
 //!

@@ -1,4 +1,4 @@
-//! Settings in TOML, and the place of a fault in them.
+//! Settings in TOML, and the position of an error in them.
 
 ghost use Rattle.std.specs.Prelude.{◌≡◌, ◌≢◌, Err, IfErr, IfOk, IsSome, OnOk};
 ghost use Rattle.toml.specs.Parse.{parse_document};
@@ -16,14 +16,15 @@ use toml_parser::ParseError;
 /// # Errors
 ///
 /// Returns [`SettingsError::At`] where the document is not TOML, with a value of the wrong type or one that is not a duration or a
-/// timestamp, with an unknown key, and with the first table that lacks a key. A text or a key that is no duration or timestamp is marked
+/// timestamp, with an unknown key, and with the first table that lacks a key. A string or a key that is no duration or timestamp is marked
 /// where it is wrong, and any other value at its start. A table is marked at its header or brace, one that has neither at the first key
-/// that makes it, and the one at the top at the start of the document. Of several wrong values, the one whose keys sort first has the error.
+/// that makes it, and the one at the top at the start of the document. Of several wrong values, the one whose keys sort first has the
+/// error.
 ///
-/// Returns [`SettingsError::Whole`], with the keys in the message, if the message does not tell the places with these keys apart, and for a
+/// Returns [`SettingsError::Whole`], with the keys in the message, if the message does not tell the positions with these keys apart, and for a
 /// fault that is no duration or timestamp below keys that have over 80 bytes together.
 ///
-/// Returns [`SettingsError::OutOfMemory`] if memory is refused.
+/// Returns [`SettingsError::OutOfMemory`] if an allocation fails.
 ///
 /// # Examples
 ///
@@ -54,7 +55,7 @@ pub fn from_toml<T: DeserializeOwned>(alloc: Global, text: &str) -> Result<T, Se
 /// # Errors
 ///
 /// Returns [`SettingsError::Whole`] if a value cannot be written, such as a timestamp that is not from 1970 to 9999, and
-/// [`SettingsError::OutOfMemory`] if memory is refused.
+/// [`SettingsError::OutOfMemory`] if an allocation fails.
 ///
 /// # Examples
 ///

@@ -252,9 +252,9 @@ impl StdDurationExt for StdDuration {
     }
 }
 
-/// Returns the byte offset of an error in the text that was parsed, or `None` for `NumberOverflow`, which has none.
+/// Returns the byte offset of an error in the string that was parsed, or `None` for `NumberOverflow`, which has none.
 ///
-/// The offset is that of the character that is wrong, or of the first letter of the unit. It is 0 for `Empty`, and the text's length if a
+/// The offset is that of the character that is wrong, or of the first letter of the unit. It is 0 for `Empty`, and the string's length if a
 /// unit is missing.
 ///
 /// # Examples

@@ -1,4 +1,4 @@
-//! The parsers of `humantime` with errors that have a place: the bytes that are wrong.
+//! The parsers of `humantime`, with errors that contain the range of the bytes that are wrong.
 
 ghost use Rattle.std.specs.Prelude.{◌≡◌, ◌+◌, ◌^◌, ◌<◌, ◌≤◌, chars, length, slice_range, suc, take, true, IfErr, IfNone, IfSome};
 ghost use Rattle.std.specs.Char.{is_ascii_digit};
@@ -18,7 +18,7 @@ use std::error::Error;
 use std::fmt::{self, Display};
 use unicode_width::UnicodeWidthStr;
 
-/// An error of a parser, and the bytes of the text that are wrong. They begin and end where a character does.
+/// An error of a parser, and the bytes of the string that are wrong. They begin and end where a character does.
 ///
 /// `Display` writes the message of the error.
 ///
@@ -39,7 +39,7 @@ use unicode_width::UnicodeWidthStr;
 /// ```
 #[derive(Clone, Copy, PartialEq, Eq, Debug)]
 pub struct Located<E> {
-    /// Why the text is rejected.
+    /// Why the string is rejected.
     pub error: E,
     /// The offset of the first byte that is wrong.
     pub start: usize,
@@ -48,7 +48,7 @@ pub struct Located<E> {
 }
 
 impl<E> Located<E> {
-    /// Returns a mark to print under the text: `^` under each column that is wrong, or one where something is missing.
+    /// Returns a caret line to print under the string: `^` under each column that is wrong, or one where something is missing.
     ///
     /// # Examples
     ///
@@ -71,7 +71,7 @@ impl<E> Located<E> {
         Underline { before, part }
     }
 
-    /// Returns this error as one of a text that has this many more bytes before it.
+    /// Returns this error for a string with this many more bytes before it.
     ///
     /// # Examples
     ///
@@ -102,7 +102,7 @@ impl<E: Display> Display for Located<E> {
     }
 }
 
-/// A mark to print under a line: `^` under each column of a part of it.
+/// A caret line to print under another line: `^` under each column of a part of it.
 ///
 /// The columns are those of a terminal as the crate `unicode_width` counts them: two for a wide character such as `中`, none for a combining
 /// one.
@@ -150,19 +150,19 @@ fn fill<W: fmt::Write>(f: &mut fmt::Formatter<W>, text: &str, columns: usize) ->
 /// What can stand at each of the first 19 bytes: `0` is any digit, a space is a `T` or a space, and another byte is that byte.
 type Layout = [u8; 19];
 
-/// The layout of the weak form.
+/// The layout of the weak format.
 static WEAK: Layout = *b"0000-00-00 00:00:00";
 
-/// The layout of the strict form.
+/// The layout of the strict format.
 static STRICT: Layout = *b"0000-00-00T00:00:00";
 
 /// Parses a duration as [`humantime::parse_duration`] does.
 ///
 /// # Errors
 ///
-/// Returns its error with the character that is wrong, with the unit, or, if this is missing, with the end of the text. The place of
-/// `NumberOverflow` is the first span up to whose end the text overflows, or, if its number or fraction is too long, all from there on. The
-/// place of `Empty` is the whole text.
+/// Returns its error with the character that is wrong, with the unit, or, if this is missing, with the end of the string. The range of
+/// `NumberOverflow` is the first span up to whose end the string overflows, or, if its number or fraction is too long, all from there on.
+/// The range of `Empty` is the whole string.
 ///
 /// # Examples
 ///
@@ -188,16 +188,16 @@ pub fn parse_duration(text: &str) -> Result<StdDuration, Located<DurationError<'
     }
 }
 
-/// Parses a timestamp in the weak form as [`humantime::parse_rfc3339_weak`] does.
+/// Parses a timestamp in the weak format as [`humantime::parse_rfc3339_weak`] does.
 ///
 /// # Errors
 ///
 /// Returns its error with the bytes that are wrong:
 ///
-/// - if the first 19 bytes are not of the form `0000-00-00 00:00:00`, the first character that cannot stand there, or the end of the text
+/// - if the first 19 bytes are not of the form `0000-00-00 00:00:00`, the first character that cannot stand there, or the end of the string
 ///   if it ends before that;
 /// - else, if a number is out of range, the first such number, such as the day;
-/// - else what follows the longest timestamp at the front of the text.
+/// - else what follows the longest timestamp at the start of the string.
 ///
 /// # Examples
 ///
@@ -227,12 +227,12 @@ pub fn parse_rfc3339_weak(text: &str) -> Result<SystemTime, Located<TimestampErr
     }
 }
 
-/// Parses a timestamp in the strict form as [`humantime::parse_rfc3339`] does.
+/// Parses a timestamp in the strict format as [`humantime::parse_rfc3339`] does.
 ///
 /// # Errors
 ///
 /// Returns its error with the bytes that are wrong, as [`parse_rfc3339_weak`] does. A space in place of the `T` is wrong. If the zone is
-/// missing, the place is the end of the text.
+/// missing, the range is empty, at the end of the string.
 ///
 /// # Examples
 ///

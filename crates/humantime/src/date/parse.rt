@@ -1,4 +1,4 @@
-//! Parses timestamps: [`parse_rfc3339`] in the strict form, and [`parse_rfc3339_weak`] in the weak form.
+//! Parses timestamps: [`parse_rfc3339`] in the strict format, and [`parse_rfc3339_weak`] in the weak format.
 
 ghost use Rattle.std.specs.Prelude.{◌≡◌, ◌^◌, ◌<◌, ◌≤◌, ◌↔◌, length, false, IsTrue, IfSome, SomeIff, Ok, Err, Some, ℤ};
 ghost use Rattle.std.specs.Char.{is_ascii_digit};
@@ -48,11 +48,11 @@ struct DateTime {
     second: u32,
 }
 
-/// Parses a timestamp in the weak form, such as `2018-02-14 00:28:07`, and returns the time that it represents.
+/// Parses a timestamp in the weak format, such as `2018-02-14 00:28:07`, and returns the time that it represents.
 ///
 /// A `T` or a space separates the date from the time. A point and any number of digits, including none, may follow the seconds; digits
-/// after the ninth are ignored. The text may end in `Z` or `+00:00`, and is always in UTC. Second 60 is read as second 59. The Rust crate
-/// `humantime` defines this form, which is based on RFC 3339.
+/// after the ninth are ignored. The string may end in `Z` or `+00:00`, and is always in UTC. Second 60 is read as second 59. The Rust crate
+/// `humantime` defines this format, which is based on RFC 3339.
 ///
 /// # Errors
 ///
@@ -85,16 +85,16 @@ pub fn parse_rfc3339_weak(s: &str) -> Result<SystemTime, TimestampError>
     read_timestamp(s.as_bytes())
 }
 
-/// Parses a timestamp in the strict form, such as `2018-02-14T00:28:07Z`, and returns the time that it represents.
+/// Parses a timestamp in the strict format, such as `2018-02-14T00:28:07Z`, and returns the time that it represents.
 ///
-/// This is the weak form with a `T` between the date and the time, and `Z` or `+00:00` at the end. It is based on RFC 3339. Other time
+/// This is the weak format with a `T` between the date and the time, and `Z` or `+00:00` at the end. It is based on RFC 3339. Other time
 /// zones, lowercase letters and years before 1970, which RFC 3339 allows, are rejected. A point without digits and second 60 in any
 /// minute, which RFC 3339 does not allow, are accepted.
 ///
 /// # Errors
 ///
-/// Returns [`InvalidFormat`](TimestampError::InvalidFormat) if the text has fewer than 20 bytes, byte 10 (counted from 0) is not a
-/// `T`, or the text does not end in `Z` or `+00:00`. Otherwise returns the error that [`parse_rfc3339_weak`] returns, if any.
+/// Returns [`InvalidFormat`](TimestampError::InvalidFormat) if the string has fewer than 20 bytes, byte 10 (counted from 0) is not a
+/// `T`, or the string does not end in `Z` or `+00:00`. Otherwise returns the error that [`parse_rfc3339_weak`] returns, if any.
 ///
 /// # Examples
 ///

@@ -31,7 +31,7 @@ enum Precision {
 
 /// A time that [`text`](Self::text) and `Display` print as a timestamp, with a fraction of 0, 3, 6 or 9 digits.
 ///
-/// It is returned by the `format_rfc3339` functions. `Display` writes the text that `text` returns in a single write, and ignores
+/// It is returned by the `format_rfc3339` functions. `Display` writes the string that `text` returns in a single write, and ignores
 /// width and fill. For a time outside 1970 to 9999, `Display` returns `fmt::Error` and writes nothing.
 ///
 /// # Examples
@@ -120,7 +120,7 @@ pub fn format_rfc3339_seconds(time: SystemTime) -> Rfc3339Timestamp
     Rfc3339Timestamp { time, precision }
 }
 
-/// Returns a value that prints `time` as a timestamp with three digits after the point. Further digits are truncated, not rounded.
+/// Returns a value that prints `time` as a timestamp with three digits after the decimal point. Further digits are truncated, not rounded.
 ///
 /// This function never fails. For a time outside 1970 to 9999, [`text`](Rfc3339Timestamp::text) returns `None` and `Display` returns
 /// [`fmt::Error`].
@@ -142,7 +142,7 @@ pub fn format_rfc3339_millis(time: SystemTime) -> Rfc3339Timestamp
     Rfc3339Timestamp { time, precision }
 }
 
-/// Returns a value that prints `time` as a timestamp with six digits after the point. Further digits are truncated, not rounded.
+/// Returns a value that prints `time` as a timestamp with six digits after the decimal point. Further digits are truncated, not rounded.
 ///
 /// This function never fails. For a time outside 1970 to 9999, [`text`](Rfc3339Timestamp::text) returns `None` and `Display` returns
 /// [`fmt::Error`].
@@ -164,7 +164,7 @@ pub fn format_rfc3339_micros(time: SystemTime) -> Rfc3339Timestamp
     Rfc3339Timestamp { time, precision }
 }
 
-/// Returns a value that prints `time` as a timestamp with nine digits after the point.
+/// Returns a value that prints `time` as a timestamp with nine digits after the decimal point.
 ///
 /// This function never fails. For a time outside 1970 to 9999, [`text`](Rfc3339Timestamp::text) returns `None` and `Display` returns
 /// [`fmt::Error`].
@@ -203,9 +203,9 @@ impl Rfc3339Timestamp {
         &self.time
     }
 
-    /// Writes the text to the front of `buf` and returns it as a slice of `buf`, or returns `None` outside 1970 to 9999.
+    /// Writes the string to the front of `buf` and returns it as a slice of `buf`, or returns `None` outside 1970 to 9999.
     ///
-    /// The text has 20, 24, 27 or 30 bytes; the bytes of `buf` after it are unspecified. If the result is `None`, `buf` is
+    /// The string has 20, 24, 27 or 30 bytes; the bytes of `buf` after it are unspecified. If the result is `None`, `buf` is
     /// unchanged.
     ///
     /// # Examples

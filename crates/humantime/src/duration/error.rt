@@ -10,8 +10,8 @@ use std::fmt;
 
 /// The error returned when parsing a duration fails.
 ///
-/// Offsets are in bytes, and lie on `char` boundaries of the text. `Display` writes the message of the Rust crate `humantime`, with the
-/// unit as written in the text. Two errors are equal if their variants and fields are equal; units are compared as text.
+/// Offsets are in bytes, and lie on `char` boundaries of the string. `Display` writes the message of the Rust crate `humantime`, with the
+/// unit as written in the string. Two errors are equal if their variants and fields are equal; units are compared as strings.
 ///
 /// # Examples
 ///
@@ -29,13 +29,13 @@ pub enum DurationError<'a> {
     InvalidCharacter(usize),
     /// A number was expected, but the character at this offset is not a digit.
     NumberExpected(usize),
-    /// The letters after a number (ASCII, `µ` or `μ`) do not name a unit, or the text ends without a unit.
+    /// The letters after a number (ASCII, `µ` or `μ`) do not name a unit, or the string ends without a unit.
     UnknownUnit {
-        /// The offset of the unit's first letter, or the text's length if the unit is missing.
+        /// The offset of the unit's first letter, or the string's length if the unit is missing.
         start: usize,
-        /// The offset after the unit's last letter, or the text's length if the unit is missing.
+        /// The offset after the unit's last letter, or the string's length if the unit is missing.
         end: usize,
-        /// The unit, borrowed from the text; empty if it is missing.
+        /// The unit, borrowed from the string; empty if it is missing.
         unit: &'a str,
         /// The integer part of the number before the unit.
         value: u64,
@@ -49,7 +49,7 @@ pub enum DurationError<'a> {
     /// The product of a number and its unit is in nanoseconds for units up to milliseconds, and otherwise in seconds. A product in
     /// nanoseconds, plus the nanoseconds of the earlier spans below a second, must also fit in a `u64`.
     NumberOverflow,
-    /// The text is empty or consists of whitespace only.
+    /// The string is empty or consists of whitespace only.
     Empty,
 }
 

@@ -7,13 +7,13 @@ use crate::duration::error::DurationError;
 use crate::duration::scan::{read_span, skip_whitespace};
 use crate::duration::span::Span;
 
-/// An iterator over the spans of a text, from left to right, and then the error at which they end, if any.
+/// An iterator over the spans of a string, from left to right, and then the error at which they end, if any.
 ///
-/// It is returned by [`spans`](crate::spans). After an error or the end of the text, `next` always returns `None`. The offsets of
-/// a span or an error lie on `char` boundaries of the text.
+/// It is returned by [`spans`](crate::spans). After an error or the end of the string, `next` always returns `None`. The offsets of
+/// a span or an error lie on `char` boundaries of the string.
 ///
 /// The clause `next_gives` is the contract of `next`: a call returns the first of the remaining items and leaves the others, or
-/// returns `None` if none remains. The text stays the same.
+/// returns `None` if none remains. The string stays the same.
 ///
 /// # Examples
 ///
@@ -28,11 +28,11 @@ use crate::duration::span::Span;
 /// ```
 #[derive(Drop)]
 pub struct SpanIter<'a> {
-    /// The whole text.
+    /// The whole string.
     pub(crate) text: &'a str,
     /// The part at the end of `text` that has not been read.
     pub(crate) rest: &'a str,
-    /// Whether an error or the end of the text has been returned.
+    /// Whether an error or the end of the string has been returned.
     pub(crate) ended: bool,
     // `by` proves that two iterators are equal if their other fields are, whatever proofs they hold here.
     ghost tail: { IsTail text.now rest.now } by { Prim.hlevel props },

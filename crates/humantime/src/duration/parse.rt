@@ -1,4 +1,4 @@
-//! Parses whole texts: [`parse_duration`] adds up what [`spans`] yields.
+//! Parses whole strings: [`parse_duration`] adds up what [`spans`] yields.
 
 ghost use Rattle.std.specs.Prelude.{◌≡◌, ◌≤◌, ◌*◌, ◌/◌, ◌^◌, IsTrue, SomeIff, chars, map, IfErr};
 ghost use Rattle.humantime.specs.Characters.{max_fraction_digits, u64_max};
@@ -71,7 +71,7 @@ fn add_amount(total: StdDuration, amount: Amount) -> Option<StdDuration>
 
 /// Returns an iterator over the spans of `s`, from left to right, and then the error at which they end, if any.
 ///
-/// After an error or the end of the text, the iterator always returns `None`.
+/// After an error or the end of the string, the iterator always returns `None`.
 ///
 /// # Errors
 ///
@@ -130,8 +130,8 @@ fn sum_of<'a>(text: &'a str) -> Result<StdDuration, DurationError<'a>>
 
 /// Parses a duration, such as `2h 37min`.
 ///
-/// The text consists of one or more spans, and the duration is their sum. A span is a number, an optional fraction and a unit, such as
-/// `1.5d`. Digits are ASCII. Unicode whitespace is allowed everywhere but in a unit. Trailing zeros of a fraction are ignored. The text
+/// The string consists of one or more spans, and the duration is their sum. A span is a number, an optional fraction and a unit, such as
+/// `1.5d`. Digits are ASCII. Unicode whitespace is allowed everywhere but in a unit. Trailing zeros of a fraction are ignored. The string
 /// `0`, without a unit or whitespace, is the zero duration.
 ///
 /// The units are `ns`, `us` or `µs`, `ms`, `s`, `m`, `h`, `d`, `w`, `M` (a month of 30.44 days) and `y` (a year of 365.25 days), and longer
@@ -142,12 +142,12 @@ fn sum_of<'a>(text: &'a str) -> Result<StdDuration, DurationError<'a>>
 /// Returns the first error, from left to right. In a span, the checks are in this order: whether the number is too large or the fraction too
 /// long, the characters, the unit, and the limits of the span and of the sum. Offsets are in bytes and lie on `char` boundaries.
 ///
-/// - [`Empty`](DurationError::Empty): the text is empty or has only whitespace.
+/// - [`Empty`](DurationError::Empty): the string is empty or contains only whitespace.
 /// - [`NumberExpected`](DurationError::NumberExpected): the first character after leading whitespace, or after a span and whitespace, is not
 ///   a digit.
 /// - [`InvalidCharacter`](DurationError::InvalidCharacter): a span has a character that is not allowed there, or a point
 ///   without a digit after it.
-/// - [`UnknownUnit`](DurationError::UnknownUnit): the letters after a number (ASCII, `µ` or `μ`) are not a unit, or the text ends
+/// - [`UnknownUnit`](DurationError::UnknownUnit): the letters after a number (ASCII, `µ` or `μ`) are not a unit, or the string ends
 ///   without one. The error borrows the unit from `s`.
 /// - [`NumberOverflow`](DurationError::NumberOverflow): a number, a number times the size of its unit, the digits of a fraction times
 ///   that size, or the sum overflows; or a fraction has more than 19 digits before its trailing zeros, or is not a whole number of

@@ -153,7 +153,7 @@ impl Model for FormattedDuration {
 /// The format is that of the Rust crate `humantime`: counts of years (365.25 days), months (30.44 days), days, hours, minutes, seconds,
 /// milliseconds, microseconds and nanoseconds, largest unit first, each as large as possible, with a space between them. Counts of zero
 /// are left out. The units are written `year`, `month` and `day`, with an `s` if the count is above 1, and `h`, `m`, `s`, `ms`, `µs` (with
-/// the micro sign U+00B5) and `ns`. A duration of zero is `0s`. The text has at most 64 bytes.
+/// the micro sign U+00B5) and `ns`. A duration of zero is `0s`. The string has at most 64 bytes.
 ///
 /// # Examples
 ///
@@ -188,9 +188,9 @@ impl FormattedDuration {
         &self.value
     }
 
-    /// Writes the text to the front of `buf` and returns it as a slice of `buf`.
+    /// Writes the string to the front of `buf` and returns it as a slice of `buf`.
     ///
-    /// The bytes of `buf` after the text are unspecified. [`parse_duration`](crate::parse_duration) parses the text to the same
+    /// The bytes of `buf` after the string are unspecified. [`parse_duration`](crate::parse_duration) parses the string to the same
     /// duration.
     ///
     /// # Examples
@@ -247,7 +247,7 @@ fn write_duration(duration: StdDuration, buf: &mut [u8; 64]) -> usize
     writer.finish()
 }
 
-/// Writes the text to the formatter in a single write, and returns the formatter's result.
+/// Writes the string to the formatter in a single write, and returns the formatter's result.
 ///
 /// Width, fill and alignment are ignored, as in the Rust crate `humantime`. To pad a duration, format the `&str` that
 /// [`text`](FormattedDuration::text) returns.
@@ -271,9 +271,9 @@ impl fmt::Display for FormattedDuration {
     }
 }
 
-/// Parses a duration, writes its canonical text to the front of `buf`, and returns the text as a slice of `buf`.
+/// Parses a duration, writes its canonical string to the front of `buf`, and returns the string as a slice of `buf`.
 ///
-/// The text is the one that [`FormattedDuration::text`] returns for the duration.
+/// The string is the one that [`FormattedDuration::text`] returns for the duration.
 ///
 /// # Errors
 ///

@@ -1,7 +1,7 @@
 //! Reads the parts of a span, such as `1.5d`: its number, point, fraction and word; and then a [`Span`].
 //!
-//! A `read_..` function returns a value and the rest of the text, a `skip_..` function only the rest, or the next offset if it takes one. In
-//! contracts, `IsTail text rest` says that `rest` is the end of `text`.
+//! A `read_..` function returns a value and the rest of the string, a `skip_..` function only the rest, or the next offset if it takes one.
+//! In contracts, `IsTail text rest` says that `rest` is the end of `text`.
 
 ghost use Rattle.std.specs.Prelude.{◌≡◌, ◌==◌, ◌+◌, ◌<◌, ◌&&◌, ◌||◌, true, drop, chars, option_map, IfSome, SomeIff, IsCharBoundary, ◌≢◌};
 ghost use Rattle.std.specs.Prelude.{IfOk, MatchResult, length};
@@ -230,7 +230,7 @@ pub(crate) fn end_span(s: &str) -> Option<&str>
     Some(&s[len..])
 }
 
-/// A span and the text after it, or the error of the first check that fails.
+/// A span and the string after it, or the error of the first check that fails.
 type ReadSpan<'a> = Result<(Span<'a>, &'a str), DurationError<'a>>;
 
 /// Returns the offset in the text at which `rest`, its unread end, begins.

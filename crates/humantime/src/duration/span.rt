@@ -1,13 +1,13 @@
-//! [`Span`]: a number with its fraction, if any, and its unit, as read from a text.
+//! [`Span`]: a number with its fraction, if any, and its unit, as read from a string.
 
 ghost use Rattle.std.specs.Prelude.{◌≡◌, option_map, chars};
 ghost use Rattle.humantime.specs.StepsOfParts.{IsAmountRead};
 
 use crate::duration::amount::Amount;
 
-/// A number with its fraction, if any, and its unit, borrowed from a text.
+/// A number with its fraction, if any, and its unit, borrowed from a string.
 ///
-/// [`spans`](crate::spans) returns an iterator over the spans of a text.
+/// [`spans`](crate::spans) returns an iterator over the spans of a string.
 ///
 /// # Examples
 ///
@@ -37,7 +37,7 @@ pub struct Span<'a> {
 impl<'a> Span<'a> {
     ghost use Rattle.humantime.specs.SpanResults.{span_view};
 
-    /// Returns the integer part as written in the text, from its first to its last digit.
+    /// Returns the integer part as written in the string, from its first to its last digit.
     ///
     /// Whitespace between the digits is included.
     ///
@@ -56,7 +56,7 @@ impl<'a> Span<'a> {
         self.number.trim_end()
     }
 
-    /// Returns the fraction as written in the text, from its first to its last digit, or `None` if there is no point.
+    /// Returns the fraction as written in the string, from its first to its last digit, or `None` if there is no decimal point.
     ///
     /// Whitespace between the digits and trailing zeros are included.
     ///
@@ -75,7 +75,7 @@ impl<'a> Span<'a> {
         Some(self.fraction?.trim_start().trim_end())
     }
 
-    /// Returns the unit as written in the text.
+    /// Returns the unit as written in the string.
     ///
     /// # Examples
     ///
@@ -91,7 +91,7 @@ impl<'a> Span<'a> {
         self.unit
     }
 
-    /// Returns the byte offset in the text of the first digit.
+    /// Returns the byte offset in the string of the first digit.
     ///
     /// # Examples
     ///
@@ -107,7 +107,7 @@ impl<'a> Span<'a> {
         self.start
     }
 
-    /// Returns the byte offset in the text after the last letter of the unit.
+    /// Returns the byte offset in the string after the last letter of the unit.
     ///
     /// # Examples
     ///
