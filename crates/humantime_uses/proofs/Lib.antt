@@ -2,10 +2,7 @@ pub mod CountedDays
 pub mod FirstDigits
 pub mod Kept
 pub mod LastErrors
-pub mod LengthFacts
 pub mod LimitFacts
-pub mod MessageFacts
-pub mod OlderFacts
 pub mod Rounding
 pub mod TextFacts
 pub mod TimestampFacts

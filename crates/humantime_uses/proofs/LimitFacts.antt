@@ -1,18 +1,23 @@
--- The limits of any number, any fraction and any sum, what any span adds, and how any count is printed: each rule written out, so that it
--- holds at every value.
-use Rattle.std.proofs.Common.{◌≡◌, ℕ, ◌+◌, ◌*◌, ◌/◌, ◌%◌, ◌^◌, List, [], ◌∷◌, ◌++◌, Some, None, length, refl}
-use Rattle.std.specs.Prelude.{codes, decimal, Bool, true, false, ◌&&◌, ◌||◌, ◌==◌, nat_le, nat_lt, if◌then◌else◌, option_map, sum_by, IsSome}
+-- The limits of any number, any fraction and any sum, what any span adds, both also as while trailing zeros of a fraction counted, and how
+-- any count is printed: each rule written out, so that it holds at every value.
+use Rattle.std.proofs.Common.{◌≡◌, ◌∙◌, ◌↔◌, ℕ, ◌+◌, ◌*◌, ◌/◌, ◌%◌, ◌^◌, ◌≤◌, List, [], ◌∷◌, ◌++◌, Some, None, length, refl, sym, ap, arith}
+use Rattle.std.specs.Prelude.{codes, decimal, Bool, true, false, ◌&&◌, ◌||◌, ◌==◌, nat_le, nat_lt, if◌then◌else◌, option_map, sum_by, unwrap_or, IsSome}
 use Rattle.std.specs.List.{AllByRecursion, zip}
 use Rattle.std.specs.Str.{byte}
 use Rattle.std.specs.Str.Parse.{digits_value}
+use Rattle.std.proofs.lemmas.Bool.Decides.{nat_tests}
 use Rattle.humantime.specs.Characters.{decimal_value, without_trailing_zeros}
-use Rattle.humantime.specs.Durations.{in_nanos, in_seconds, in_seconds_and_nanos, scale_of_word, whole_nanos, SpelledSpan, Reads, Accepted, BareZero, SumOf, Formed, additions, additions_of, fits, fraction_additions, fraction_fits, has_room, has_too_many_digits, of_kind, quantity_nanos, size, too_long, total, value}
+use Rattle.humantime.specs.Durations.{in_nanos, in_seconds, in_seconds_and_nanos, scale_of_word, whole_nanos, SpelledSpan, Reads, Accepted, AllHaveRoom, BareZero, SumOf, Formed, additions, additions_of, fits, fraction_additions, fraction_fits, has_room, has_too_many_digits, of_kind, quantity_nanos, size, times, too_long, total, value}
+use Rattle.humantime.specs.Laws.{OlderFormed, OlderFraction, older_additions, older_additions_of, older_fraction_additions, older_value, AcceptedWithZeros, OlderZero, OlderSum}
 use Rattle.humantime.specs.PrintedDurations.{Suffix, printed_count, printed_counts, joined_by_space, suffixes, weights}
 use Rattle.humantime.specs.DurationResults.{divided, duration_text}
 use Rattle.humantime.proofs.Characters.{significant_last, significant_zero}
 
+abbrev greatest : ℕ
+greatest = 18446744073709551615
+
 abbrev small : ℕ → Bool
-small n = nat_le n 18446744073709551615
+small n = nat_le n greatest
 
 -- ---- units
 
@@ -21,14 +26,12 @@ in_nanoseconds : (n : ℕ) → let unit = in_nanos n in
     (size unit.whole ≡ n) × (quantity_nanos unit.whole ≡ n) × (option_map size unit.part ≡ Some n) × (option_map quantity_nanos unit.part ≡ Some n)
 in_nanoseconds n = (refl, refl, refl, refl)
 
-short_seconds : (n : ℕ) → let unit = in_seconds_and_nanos n in
-    (size unit.whole ≡ n) × (quantity_nanos unit.whole ≡ n * 1_000_000_000)
-    × (option_map size unit.part ≡ Some (n * 1_000_000_000)) × (option_map quantity_nanos unit.part ≡ Some (n * 1_000_000_000))
+short_seconds : (n : ℕ) → let unit = in_seconds_and_nanos n in let nanos = n * 1_000_000_000 in
+    (size unit.whole ≡ n) × (quantity_nanos unit.whole ≡ nanos) × (option_map size unit.part ≡ Some nanos) × (option_map quantity_nanos unit.part ≡ Some nanos)
 short_seconds n = (refl, refl, refl, refl)
 
-long_seconds : (n : ℕ) → let unit = in_seconds n in
-    (size unit.whole ≡ n) × (quantity_nanos unit.whole ≡ n * 1_000_000_000)
-    × (option_map size unit.part ≡ Some n) × (option_map quantity_nanos unit.part ≡ Some (n * 1_000_000_000))
+long_seconds : (n : ℕ) → let unit = in_seconds n in let nanos = n * 1_000_000_000 in
+    (size unit.whole ≡ n) × (quantity_nanos unit.whole ≡ nanos) × (option_map size unit.part ≡ Some n) × (option_map quantity_nanos unit.part ≡ Some nanos)
 long_seconds n = (refl, refl, refl, refl)
 
 nanosecond : (size whole_nanos.whole ≡ 1) × (quantity_nanos whole_nanos.whole ≡ 1) × (whole_nanos.part ≡ None)
@@ -53,14 +56,11 @@ last_digit : (ds : List ℕ) (d : ℕ) → (d == byte "0") ≡ false → without
 last_digit ds d other = significant_last ds d other
 
 -- A number has to fit 64 bits, and a fraction may have nineteen digits without its trailing zeros.
-any_length : (s : SpelledSpan) → too_long s ≡ (nat_lt 18446744073709551615 (decimal_value s.number) || has_too_many_digits s.fraction)
+any_length : (s : SpelledSpan) → too_long s ≡ (nat_lt greatest (decimal_value s.number) || has_too_many_digits s.fraction)
 any_length s = refl
 
-no_digits : has_too_many_digits None ≡ false
-no_digits = refl
-
-nineteen : (fs : List ℕ) → has_too_many_digits (Some fs) ≡ nat_lt 19 (length (without_trailing_zeros fs))
-nineteen fs = refl
+nineteen : (fs : List ℕ) → (has_too_many_digits None ≡ false) × (has_too_many_digits (Some fs) ≡ nat_lt 19 (length (without_trailing_zeros fs)))
+nineteen fs = (refl, refl)
 
 -- ---- limits of a span of any unit
 
@@ -72,22 +72,19 @@ any_number s unit is = rw is refl
 no_fraction : (part : _) → fraction_fits part None ≡ true
 no_fraction part = refl
 
--- Without its trailing zeros, it denotes a whole number of what it is a part of, and its product with this fits 64 bits.
-any_fraction : (part : _) (fs : List ℕ) → fraction_fits (Some part) (Some fs)
-    ≡ (let ds = without_trailing_zeros fs in small (decimal_value ds * size part) && (decimal_value ds * size part % 10 ^ length ds == 0))
-any_fraction part fs = refl
-
-fraction_of_nanos : (fs : List ℕ) → fraction_fits None (Some fs) ≡ (length (without_trailing_zeros fs) == 0)
-fraction_of_nanos fs = refl
+-- Without its trailing zeros, it denotes a whole number of what it is a part of, and its product with this fits 64 bits. Of a fraction of
+-- nanoseconds nothing is left.
+any_fraction : (part : _) (fs : List ℕ) → let ds = without_trailing_zeros fs in
+    (fraction_fits (Some part) (Some fs) ≡ (small (decimal_value ds * size part) && (decimal_value ds * size part % 10 ^ length ds == 0)))
+    × (fraction_fits None (Some fs) ≡ (length ds == 0))
+any_fraction part fs = (refl, refl)
 
 -- ---- limits of a sum
 
 -- The seconds of the new sum have to fit 64 bits, and added nanoseconds have to do so together with those below a second.
-room_of_seconds : (t n : ℕ) → has_room t (in_seconds n).whole ≡ small (t / 1_000_000_000 + n)
-room_of_seconds t n = refl
-
-room_of_nanos : (t n : ℕ) → has_room t (in_nanos n).whole ≡ (small (t % 1_000_000_000 + n) && small ((t + n) / 1_000_000_000))
-room_of_nanos t n = refl
+room : (t n : ℕ) → (has_room t (in_seconds n).whole ≡ small (t / 1_000_000_000 + n))
+    × (has_room t (in_nanos n).whole ≡ (small (t % 1_000_000_000 + n) && small ((t + n) / 1_000_000_000)))
+room t n = (refl, refl)
 
 -- There are no other limits, for any spans.
 formed : (s : SpelledSpan) → too_long s ≡ false → IsSome (scale_of_word s.word) → Formed s
@@ -99,8 +96,8 @@ any_spans : (text : List ℕ) (spans : List SpelledSpan) → Reads text spans �
     → Accepted text (value spans)
 any_spans text spans reads each fit room = SumOf spans reads (record { formed = each; fit = fit; room = room }) refl
 
-zero : Accepted (codes "0") 0
-zero = BareZero refl refl
+zero : Accepted (codes "0") 0 × AcceptedWithZeros (codes "0") 0
+zero = (BareZero refl refl, OlderZero refl refl)
 
 -- ---- what a span of any unit adds
 
@@ -108,34 +105,59 @@ any_addition : (s : SpelledSpan) (unit : _) → scale_of_word s.word ≡ Some un
     → additions_of s ≡ of_kind unit.whole (decimal_value s.number * size unit.whole) ∷ fraction_additions unit.part s.fraction
 any_addition s unit is = rw is refl
 
-no_part : (part : _) → fraction_additions part None ≡ []
-no_part None = refl
-no_part (Some part) = refl
-
-no_part_of_nanos : (fs : List ℕ) → fraction_additions None (Some fs) ≡ []
-no_part_of_nanos fs = refl
-
-any_part : (part : _) (fs : List ℕ) → fraction_additions (Some part) (Some fs)
-    ≡ (let ds = without_trailing_zeros fs in of_kind part (decimal_value ds * size part / 10 ^ length ds) ∷ [])
-any_part part fs = refl
+any_part : (part : _) (fs : List ℕ) → let ds = without_trailing_zeros fs in
+    (fraction_additions (Some part) (Some fs) ≡ of_kind part (decimal_value ds * size part / 10 ^ length ds) ∷ [])
+    × (fraction_additions (Some part) None ≡ []) × (fraction_additions None (Some fs) ≡ []) × (fraction_additions None None ≡ [])
+any_part part fs = (refl, refl, refl, refl)
 
 any_additions : (s : SpelledSpan) (spans : List SpelledSpan) → additions (s ∷ spans) ≡ additions_of s ++ additions spans
 any_additions s spans = refl
 
-any_total : (xs : List _) → total xs ≡ sum_by quantity_nanos xs
-any_total xs = refl
-
-any_value : (spans : List SpelledSpan) → value spans ≡ total (additions spans)
+any_value : (spans : List SpelledSpan) → value spans ≡ sum_by quantity_nanos (additions spans)
 any_value spans = refl
+
+-- ---- while trailing zeros of a fraction counted
+
+-- A span had a number which, like its product with the unit, did not exceed a `u64`, and its fraction was within its limits.
+older_span : (s : SpelledSpan) (unit : _) → scale_of_word s.word ≡ Some unit
+    → OlderFormed s
+    ↔ ((decimal_value s.number ≤ greatest) × (decimal_value s.number * size unit.whole ≤ greatest) × OlderFraction unit.part s.fraction)
+older_span s unit is = (
+  λ h.
+      let same : h.unit ≡ unit = ap (λ u. unwrap_or u unit) (sym h.word ∙ is) in
+      rw (← same) (h.number, h.product, h.fraction),
+  λ h. record { unit = unit; word = is; number = h.0; product = h.1; fraction = h.2 },
+)
+
+-- A fraction had at most 19 digits, zeros counted. Their product with what they are parts of did not exceed a `u64`, and was a multiple of
+-- their power of ten. Nanoseconds had no fraction.
+older_fraction : (part : _) (ds : List ℕ) → OlderFraction (Some part) (Some ds)
+    ↔ ((length ds ≤ 19) × (decimal_value ds * size part ≤ greatest) × (decimal_value ds * size part % 10 ^ length ds ≡ 0))
+older_fraction part ds =
+    (λ h. (h.0, grind (arith, nat_tests, (h.1)), grind (arith, nat_tests, (h.1))), λ h. (h.0, grind (arith, nat_tests, (h.1), (h.2))))
+
+no_older_fraction : (part : _) (ds : List ℕ) → OlderFraction part None × ¬ (OlderFraction None (Some ds))
+no_older_fraction part ds = (tt, λ h. h)
+
+-- Spans were accepted if there was room for each addition.
+older_spans : (text : List ℕ) (spans : List SpelledSpan) → Reads text spans → AllByRecursion OlderFormed spans → AllHaveRoom (older_additions spans)
+    → AcceptedWithZeros text (older_value spans)
+older_spans text spans reads formed room = OlderSum spans reads formed room refl
+
+-- A span added its number and then its fraction, with all digits of both.
+older_addition : (s : SpelledSpan) (unit : _) → scale_of_word s.word ≡ Some unit
+    → older_additions_of s ≡ times (decimal_value s.number) unit.whole ∷ older_fraction_additions unit.part s.fraction
+older_addition s unit is = rw is refl
+
+older_part : (part : _) (ds : List ℕ) → older_fraction_additions (Some part) (Some ds) ≡ of_kind part (decimal_value ds * size part / 10 ^ length ds) ∷ []
+older_part part ds = refl
 
 -- ---- printing
 
 -- A count above 1 has the `s` of the plural if its unit has one, and no other count has it.
-plural : (n : ℕ) (unit : List ℕ) → printed_count n (unit, true) ≡ decimal n ++ unit ++ (if nat_lt 1 n then codes "s" else [])
-plural n unit = refl
-
-no_plural : (n : ℕ) (unit : List ℕ) → printed_count n (unit, false) ≡ decimal n ++ unit ++ []
-no_plural n unit = refl
+plural : (n : ℕ) (unit : List ℕ) → (printed_count n (unit, true) ≡ decimal n ++ unit ++ (if nat_lt 1 n then codes "s" else []))
+    × (printed_count n (unit, false) ≡ decimal n ++ unit ++ [])
+plural n unit = (refl, refl)
 
 -- A text has the counts that are not zero, joined with single spaces.
 zero_count : (x : Suffix) (counts : List ℕ) (ends : List Suffix) → printed_counts (0 ∷ counts) (x ∷ ends) ≡ printed_counts counts ends
@@ -145,14 +167,9 @@ other_count : (c : ℕ) (x : Suffix) (counts : List ℕ) (ends : List Suffix) �
     → printed_counts (c ∷ counts) (x ∷ ends) ≡ printed_count c x ∷ printed_counts counts ends
 other_count c x counts ends some = rw some refl
 
-no_count : joined_by_space [] ≡ codes "0s"
-no_count = refl
-
-one_count : (a : List ℕ) → joined_by_space (a ∷ []) ≡ a
-one_count a = refl
-
-space : (a b : List ℕ) (others : List (List ℕ)) → joined_by_space (a ∷ b ∷ others) ≡ a ++ byte " " ∷ joined_by_space (b ∷ others)
-space a b others = refl
+space : (a b : List ℕ) (others : List (List ℕ)) → (joined_by_space [] ≡ codes "0s") × (joined_by_space (a ∷ []) ≡ a)
+    × (joined_by_space (a ∷ b ∷ others) ≡ a ++ byte " " ∷ joined_by_space (b ∷ others))
+space a b others = (refl, refl, refl)
 
 -- The counts come by division, from years to nanoseconds.
 by_division : (w d : ℕ) (ws : List ℕ) → divided (w ∷ ws) d ≡ d / w ∷ divided ws (d % w)

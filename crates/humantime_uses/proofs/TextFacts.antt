@@ -1,61 +1,48 @@
--- What texts of durations consist of: whitespace, digits, letters, points, and the words of the units.
-use Rattle.std.proofs.Common.{◌≡◌, ℕ, ◌≤◌, List, [], ◌∷◌, ◌++◌, filter, map, refl, arith}
-use Rattle.std.specs.Prelude.{codes, bytes_eq, false, ◌||◌, ◌==◌}
+-- What texts of durations consist of, at any length: whitespace, digits, letters, points, the words of the units, spans; and messages.
+use Rattle.std.proofs.Common.{◌≡◌, ◌≢◌, ℕ, List, [], ◌∷◌, ◌++◌, Some, map, filter, refl, arith, append-nil}
+use Rattle.std.specs.Prelude.{codes, bytes_eq, decimal, ◌&&◌, ◌||◌, ◌==◌, nat_le, not, true, IsPermutation}
 use Rattle.std.specs.Char.{char_set_contains}
-use Rattle.std.proofs.lemmas.Bool.Decides.{nat_tests}
-use Rattle.std.specs.List.{range_with_len}
 use Rattle.std.specs.Map.{lookup}
-use Rattle.humantime.specs.Prelude.{without_whitespace}
+use Rattle.std.specs.Str.{byte}
+use Rattle.std.proofs.lemmas.Grind.{common_steps}
+use Rattle.humantime.specs.declared.TimestampError.TheVariants.{OutOfRange, InvalidDigit, InvalidFormat}
+use Rattle.humantime.specs.Prelude.{AreReordered, Reads, SpelledSpan, InvalidCharacter, NumberExpected, UnknownUnit, NumberOverflow, Empty, fault_message, timestamp_message, without_whitespace}
 use Rattle.humantime.specs.Laws.{is_gap}
-use Rattle.humantime.specs.Characters.{whitespace_chars, is_whitespace, is_digit, is_letter, is_point}
-use Rattle.humantime.specs.Durations.{in_nanos, in_seconds, in_seconds_and_nanos, scale_of_word, whole_nanos, words}
-use Rattle.humantime.proofs.OnLiterals.{humantime_on_literals}
+use Rattle.humantime.specs.Items.{IsDigitSlice}
+use Rattle.humantime.specs.Characters.{begins, ends, whitespace_chars, is_whitespace, is_digit, is_letter, is_point}
+use Rattle.humantime.specs.Durations.{HasOnly, HoldsDigits, IsLetters, in_nanos, in_seconds, in_seconds_and_nanos, scale_of_word, whole_nanos, words}
+use Rattle.humantime.proofs.Characters.{digit_is_numeric}
 
--- All characters of ASCII.
-abbrev ascii : List ℕ
-ascii = range_with_len 0 128
+-- ---- characters
 
-digits : filter is_digit ascii ≡ codes "0123456789"
-unfolding humantime_on_literals
-digits = refl
+any_digit : (c : ℕ) → is_digit c ≡ (nat_le 48 c && nat_le c 57)
+unfolding is_digit
+any_digit c = refl
 
-letters : filter is_letter ascii ≡ codes "ABCDEFGHIJKLMNOPQRSTUVWXYZabcdefghijklmnopqrstuvwxyz"
-unfolding humantime_on_literals
-letters = refl
+-- A letter is one of ASCII, the micro sign or Greek mu.
+any_letter : (c : ℕ) → is_letter c ≡ (((nat_le 65 c && nat_le c 90) || (nat_le 97 c && nat_le c 122)) || (c == 0xb5) || (c == 0x3bc))
+unfolding is_letter
+any_letter c = refl
 
-points : filter is_point ascii ≡ codes "."
-unfolding humantime_on_literals
-points = refl
+any_point : (c : ℕ) → is_point c ≡ (c == 46)
+unfolding is_point
+any_point c = refl
 
 -- These characters are whitespace, and no others.
-all_whitespace : (c : ℕ) → is_whitespace c
+any_whitespace : (c : ℕ) → is_whitespace c
     ≡ char_set_contains
     (0x9 ∷ 0xa ∷ 0xb ∷ 0xc ∷ 0xd ∷ 0x20 ∷ 0x85 ∷ 0xa0 ∷ 0x1680 ∷ 0x2000 ∷ 0x2001 ∷ 0x2002 ∷ 0x2003 ∷ 0x2004 ∷ 0x2005 ∷ 0x2006
     ∷ 0x2007 ∷ 0x2008 ∷ 0x2009 ∷ 0x200a ∷ 0x2028 ∷ 0x2029 ∷ 0x202f ∷ 0x205f ∷ 0x3000 ∷ []) c
 unfolding is_whitespace whitespace_chars
-all_whitespace c = refl
-
--- Beyond ASCII there is no digit and no point, and there are two letters.
-beyond_digits : (c : ℕ) → 128 ≤ c → is_digit c ≡ false
-unfolding is_digit
-beyond_digits c h = grind (arith, nat_tests)
-
-beyond_letters : (c : ℕ) → 128 ≤ c → is_letter c ≡ ((c == 0xb5) || (c == 0x3bc))
-unfolding is_letter
-beyond_letters c h = grind (arith, nat_tests)
-
-beyond_points : (c : ℕ) → 128 ≤ c → is_point c ≡ false
-unfolding is_point
-beyond_points c h = grind (arith, nat_tests)
+any_whitespace c = refl
 
 -- Only whitespace and points may lie outside the slices of spans.
 any_gap : (c : ℕ) → is_gap c ≡ (is_whitespace c || is_point c)
 any_gap c = refl
 
 -- A text without its whitespace keeps its other characters in order.
-no_whitespace : without_whitespace (codes "1 2\th" ++ 0x3000 ∷ codes "3 0 min") ≡ codes "12h30min"
-unfolding humantime_on_literals
-no_whitespace = refl
+no_whitespace : (text : List ℕ) → without_whitespace text ≡ filter (λ c. not (is_whitespace c)) text
+no_whitespace text = refl
 
 -- ---- the words of the units, each with the number of nanoseconds or of seconds in one of it
 
@@ -81,3 +68,74 @@ all_words = refl
 any_word : (word : List ℕ) → scale_of_word word ≡ lookup (bytes_eq word) words
 unfolding scale_of_word
 any_word word = refl
+
+-- ---- spans
+
+-- Digits alone are the digits that they hold.
+digits_held : (ds : List ℕ) → HasOnly is_digit ds → HoldsDigits ds ds
+digits_held [] only = (tt, refl)
+digits_held (d ∷ ds) only = let more = digits_held ds only.1 in grind (arith, common_steps, digit_is_numeric)
+
+-- A span is read with all its digits and letters, after and before any whitespace.
+any_span : (before number ds word after : List ℕ) → HasOnly is_whitespace before → HasOnly is_digit number → number ≢ [] → HasOnly is_digit ds → ds ≢ []
+    → IsLetters word → HasOnly is_whitespace after
+    → Reads (before ++ (number ++ (codes "." ++ (ds ++ (word ++ after))))) (record { number = number; fraction = Some ds; word = word } ∷ [])
+any_span before number ds word after white digits some fraction any letters more = (
+  record {
+    whitespace = before;
+    body = _;
+    whole = refl;
+    only_whitespace = white;
+    each = (
+      [],
+      record {
+        number_text = number;
+        fraction_text = byte "." ∷ ds;
+        whitespace = after;
+        whole = rw (append-nil after) refl;
+        starts = grind arith;
+        number = digits_held number digits;
+        fraction = (ds, refl, digits_held ds fraction, any);
+        word = letters;
+        only_whitespace = more;
+      },
+      refl,
+    );
+  },
+  λ none. cc,
+)
+
+-- The slice of a number or a fraction begins and ends with a digit.
+digit_ends : (text slice : List ℕ) → IsDigitSlice text slice → (begins is_digit slice ≡ true) × (ends is_digit slice ≡ true)
+digit_ends text slice is = (is.first_digit, is.last_digit)
+
+-- Spans may be in any other order.
+any_order : (text other : List ℕ) (spans others : List SpelledSpan) → Reads text spans → Reads other others → IsPermutation spans others
+    → AreReordered text other
+any_order text other spans others reads other_reads moved =
+    record { spans = spans; others = others; reads = reads; other_reads = other_reads; moved = moved }
+
+-- ---- messages
+
+of_durations : (at : ℕ)
+    → map fault_message (InvalidCharacter at ∷ NumberExpected at ∷ NumberOverflow ∷ Empty ∷ [])
+    ≡ (codes "invalid character at " ++ decimal at) ∷ (codes "expected number at " ++ decimal at)
+    ∷ codes "number is too large or cannot be represented without a lack of precision (values below 1ns are not supported)"
+    ∷ codes "value was empty" ∷ []
+of_durations at = refl
+
+-- The unit is missing.
+missing_unit : (start end value : ℕ) → fault_message (UnknownUnit start end [] value)
+    ≡ codes "time unit needed, for example " ++ decimal value ++ codes "sec or " ++ decimal value ++ codes "ms"
+missing_unit start end value = refl
+
+-- Any other unit is repeated, whatever its length. The message has the micro sign.
+unknown_unit : (start end b : ℕ) (bs : List ℕ) (value : ℕ) → fault_message (UnknownUnit start end (b ∷ bs) value)
+    ≡ codes "unknown time unit \"" ++ (b ∷ bs)
+    ++ (codes "\", supported units: ns, us/" ++ 0xc2 ∷ 0xb5 ∷ codes "s, ms, sec, min, hours, days, weeks, months, years (and few variations)")
+unknown_unit start end b bs value = refl
+
+of_timestamps :
+    map timestamp_message (OutOfRange ∷ InvalidDigit ∷ InvalidFormat ∷ [])
+    ≡ codes "numeric component is out of range" ∷ codes "bad character where digit is expected" ∷ codes "timestamp format is invalid" ∷ []
+of_timestamps = refl

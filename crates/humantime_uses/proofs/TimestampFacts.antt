@@ -1,96 +1,19 @@
--- What holds of any day, timestamp and moment, each rule written out; and which bytes fit at each place of a text, by computation.
-use Rattle.std.proofs.Common.{◌≡◌, ◌≢◌, ◌↔◌, ◌⊎◌, ℕ, ◌+◌, ◌-◌, ◌*◌, ◌/◌, ◌%◌, ◌^◌, ◌≤◌, List, [], ◌∷◌, ◌++◌, None, Some, Result, Err, length, map, filter, take, drop, refl, inl, inr, arith}
-use Rattle.std.specs.Prelude.{ℤ, ◌≤ℤ◌, ◌<ℤ◌, pos, negsuc, Bool, true, false, ◌&&◌, ◌||◌, ◌==◌, not, nat_le, nat_lt, if◌then◌else◌, codes, is_ok, min, option_map, slice_index, IsTrue}
+-- What holds of any date, timestamp, moment and run of a job: each rule written out.
+use Rattle.std.proofs.Common.{◌≡◌, ◌≢◌, ◌↔◌, ◌⊎◌, ℕ, ◌+◌, ◌-◌, ◌*◌, ◌/◌, ◌%◌, ◌^◌, ◌≤◌, List, [], ◌∷◌, ◌++◌, None, Some, length, take, drop, refl, inl, inr, arith}
+use Rattle.std.specs.Prelude.{ℤ, ◌+ℤ◌, ◌≤ℤ◌, ◌<ℤ◌, pos, negsuc, Bool, true, false, ◌&&◌, ◌||◌, ◌==◌, nat_le, if◌then◌else◌, codes, min, option_map, slice_index, IsTrue}
 use Rattle.std.specs.Char.{is_ascii_digit}
-use Rattle.std.specs.List.{list_all, range_with_len}
+use Rattle.std.specs.List.{list_all}
 use Rattle.std.specs.Str.{byte, all_ascii_digits}
 use Rattle.std.proofs.lemmas.Bool.Decides.{nat_tests}
 use Rattle.std.proofs.lemmas.Int.{ints}
-use Rattle.humantime.specs.declared.calendar.Date.{Date}
 use Rattle.humantime.specs.declared.date.error.TimestampError.{TimestampError}
 use Rattle.humantime.specs.declared.date.error.TimestampError.TheVariants.{OutOfRange, InvalidDigit, InvalidFormat}
-use Rattle.humantime.specs.Prelude.{weak_answer, strict_answer, cut, moment_text, places_of, shortest_text, IsPrintable, IsPrinted}
+use Rattle.humantime.specs.Prelude.{cut, places_of, IsPrintable, IsPrinted}
 use Rattle.humantime.specs.Characters.{decimal_value}
-use Rattle.humantime.specs.Calendar.{IsDate, days_in_month, days_of_months, days_of_years, is_leap_year, is_valid, day_of}
-use Rattle.humantime.specs.Timestamps.{date_time_of, ends_in_zone, first_failed, fraction_part, has_two, is_valid_date_time, strict_checks, weak_checks, Fields, Separator, Letter_T, Space, Zone, NoZone, Letter_Z, ZeroOffset, IsStrict, IsWeak, date_time_text, fields_text, four_digits, fraction_digits, fraction_nanos, fraction_text, moment_of, separator_byte, two_digits, zone_text}
-use Rattle.humantime.specs.TimestampResults.{fields_at}
+use Rattle.humantime.specs.Calendar.{IsDate, days_in_month, is_valid, day_of}
+use Rattle.humantime.specs.Timestamps.{date_time_of, ends_in_zone, first_failed, fraction_part, has_two, is_valid_date_time, strict_checks, weak_checks, Fields, Separator, Letter_T, Space, Zone, NoZone, Letter_Z, ZeroOffset, IsStrict, IsWeak, fields_text, fraction_digits, fraction_nanos, fraction_text, moment_of, separator_byte, zone_text}
 use Rattle.humantime.proofs.OnLiterals.{timestamps_on_literals}
-
--- ---- the day after any day, the first day of any next month and year, and which dates exist
-
-abbrev date : ℕ → ℕ → ℕ → Date
-date y m d = record { year = y; month = m; day = d }
-
-first_day : day_of (date 1970 1 1) ≡ 0
-unfolding days_of_years days_of_months
-first_day = refl
-
-next_day : (y m d : ℕ) → 1 ≤ d → day_of (date y m (d + 1)) ≡ day_of (date y m d) + 1
-next_day y m d some = omega arith
-
-next_month : (y m : ℕ) → 1 ≤ m → day_of (date y (m + 1) 1) ≡ day_of (date y m 1) + days_in_month y m
-unfolding days_of_months
-next_month y m some = grind arith
-
-next_year : (y : ℕ) → 1970 ≤ y → day_of (date (y + 1) 1 1) ≡ day_of (date y 1 1) + (if is_leap_year y then 366 else 365)
-unfolding days_of_years days_of_months
-next_year y late = grind arith
-
-leap : (y : ℕ) → is_leap_year y ≡ ((y % 4 == 0) && (not (y % 100 == 0) || (y % 400 == 0)))
-leap y = refl
-
-lengths : (y : ℕ) → map (days_in_month y) (range_with_len 1 12)
-    ≡ 31 ∷ (if is_leap_year y then 29 else 28) ∷ 31 ∷ 30 ∷ 31 ∷ 30 ∷ 31 ∷ 31 ∷ 30 ∷ 31 ∷ 30 ∷ 31 ∷ []
-lengths y = refl
-
-valid : (y m d : ℕ) → is_valid y m d
-    ≡ ((nat_le 1970 y && nat_le y 9999) && (nat_le 1 m && nat_le m 12) && (nat_le 1 d && nat_le d (days_in_month y m)))
-valid y m d = refl
-
--- ---- bytes
-
--- Returns the bytes of ASCII with which the parser accepts the text if they take the place of its byte at this offset, or follow its end.
-abbrev fitting : (List ℕ → Result ℤ TimestampError) → List ℕ → ℕ → List ℕ
-fitting parser text at = filter (λ b. is_ok (parser (take at text ++ b ∷ drop (at + 1) text))) (range_with_len 0 128)
-
-abbrev digits : List ℕ
-digits = codes "0123456789"
-
-abbrev with_fraction : List ℕ
-with_fraction = codes "2018-02-14T00:28:07.5Z"
-
--- The bytes that fit at each offset of this text, and none after its end. The separators stand between the date and the time, and the last
--- bytes at the end. The year is 1970 to 9999, the month 1 to 12, the day 1 to 28, the hour at most 23, the minute at most 59, the second at
--- most 60.
-abbrev bytes_of : List ℕ → List ℕ → List (List ℕ)
-bytes_of separators last =
-    codes "23456789" ∷ digits ∷ digits ∷ digits
-    ∷ codes "-" ∷ codes "01" ∷ codes "123456789"
-    ∷ codes "-" ∷ codes "012" ∷ digits
-    ∷ separators ∷ codes "012" ∷ digits
-    ∷ codes ":" ∷ codes "012345" ∷ digits
-    ∷ codes ":" ∷ codes "012345" ∷ digits
-    ∷ codes "." ∷ digits
-    ∷ last ∷ [] ∷ []
-
-weak_bytes : map (fitting weak_answer with_fraction) (range_with_len 0 23) ≡ bytes_of (codes " T") (codes "0123456789Z")
-unfolding timestamps_on_literals
-weak_bytes = refl
-
-strict_bytes : map (fitting strict_answer with_fraction) (range_with_len 0 23) ≡ bytes_of (codes "T") (codes "Z")
-unfolding timestamps_on_literals
-strict_bytes = refl
-
--- After the seconds, and from there on with the other zone.
-bytes_after_seconds : fitting weak_answer (codes "2018-02-14T00:28:07") 19 ≡ codes ".Z"
-unfolding timestamps_on_literals
-bytes_after_seconds = refl
-
-bytes_of_zones :
-    map (fitting weak_answer (codes "2018-02-14T00:28:07+00:00")) (range_with_len 19 7)
-    ≡ codes "+" ∷ codes "0" ∷ codes "0" ∷ codes ":" ∷ codes "0" ∷ codes "0" ∷ [] ∷ []
-unfolding timestamps_on_literals
-bytes_of_zones = refl
+use Rattle.humantime_std.specs.Schedule.{IsDue}
 
 -- ---- errors
 
@@ -119,6 +42,10 @@ any_range : (x : _)
 unfolding timestamps_on_literals
 any_range x = refl
 
+any_date : (y m d : ℕ) → is_valid y m d
+    ≡ ((nat_le 1970 y && nat_le y 9999) && (nat_le 1 m && nat_le m 12) && (nat_le 1 d && nat_le d (days_in_month y m)))
+any_date y m d = refl
+
 strict_check : (b : List ℕ)
     → strict_checks b ≡ (nat_le 20 (length b) && (slice_index b 10 == byte "T") && ends_in_zone b, InvalidFormat) ∷ weak_checks b
 unfolding timestamps_on_literals
@@ -127,14 +54,6 @@ strict_check b = refl
 first_error : (e : TimestampError) (others : List (Bool × TimestampError))
     → (first_failed ((true, e) ∷ others) ≡ first_failed others) × (first_failed ((false, e) ∷ others) ≡ Some e)
 first_error e others = (refl, refl)
-
-short_weak : (text : List ℕ) → nat_le 19 (length text) ≡ false → weak_answer text ≡ Err InvalidFormat
-unfolding timestamps_on_literals
-short_weak text short = rw short refl
-
-short_strict : (text : List ℕ) → nat_le 20 (length text) ≡ false → strict_answer text ≡ Err InvalidFormat
-unfolding timestamps_on_literals
-short_strict text short = rw short refl
 
 -- ---- forms
 
@@ -151,20 +70,14 @@ weak_form text f = (
 strict_form : (text : List ℕ) (f : Fields) → IsStrict text f ↔ (IsWeak text f × (f.separator ≡ Letter_T) × (f.zone ≢ NoZone))
 strict_form text f = (λ s. (s.weak, s.separator, s.zone), λ h. record { weak = h.0; separator = h.1; zone = h.2 })
 
-any_text : (f : Fields) → fields_text f ≡ date_time_text f ++ fraction_text f.fraction ++ zone_text f.zone
+abbrev two : ℕ → List ℕ
+two n = (48 + n / 10) ∷ (48 + n % 10) ∷ []
+
+any_text : (f : Fields) → let y = f.date.year in
+    fields_text f
+    ≡ (48 + y / 1000) ∷ (48 + y / 100 % 10) ∷ (48 + y / 10 % 10) ∷ (48 + y % 10) ∷ byte "-" ∷ two f.date.month ++ byte "-" ∷ two f.date.day
+    ++ separator_byte f.separator ∷ two f.hour ++ byte ":" ∷ two f.minute ++ byte ":" ∷ two f.second ++ fraction_text f.fraction ++ zone_text f.zone
 any_text f = refl
-
-any_date_time : (f : Fields)
-    → date_time_text f
-    ≡ four_digits f.date.year ++ codes "-" ++ two_digits f.date.month ++ codes "-" ++ two_digits f.date.day ++ separator_byte f.separator
-    ∷ two_digits f.hour ++ codes ":" ++ two_digits f.minute ++ codes ":" ++ two_digits f.second
-any_date_time f = refl
-
-any_two : (n : ℕ) → two_digits n ≡ (48 + n / 10) ∷ (48 + n % 10) ∷ []
-any_two n = refl
-
-any_four : (n : ℕ) → four_digits n ≡ (48 + n / 1000) ∷ (48 + n / 100 % 10) ∷ (48 + n / 10 % 10) ∷ (48 + n % 10) ∷ []
-any_four n = refl
 
 separators : (s : Separator) → (separator_byte s ≡ byte "T") ⊎ (separator_byte s ≡ byte " ")
 separators Letter_T = inl refl
@@ -216,14 +129,10 @@ printed_form t k text = (
 printable : (t : ℤ) → IsPrintable t ↔ ((pos 0 ≤ℤ t) × (t <ℤ pos 253_402_300_800_000_000_000))
 printable t = (λ h. h, λ h. h)
 
-text_from_1970 : (n k : ℕ)
-    → moment_text (pos n) k ≡ (if nat_lt n 253_402_300_800_000_000_000 then Some (fields_text (fields_at n k)) else None)
-unfolding timestamps_on_literals
-text_from_1970 n k = refl
+-- ---- runs of a job, one or more whole periods after the last one, and not before now
 
-text_before_1970 : (n k : ℕ) → moment_text (negsuc n) k ≡ None
-unfolding timestamps_on_literals
-text_before_1970 n k = refl
-
-shortest : (t : ℤ) → shortest_text t ≡ moment_text t (places_of t)
-shortest t = refl
+any_run : (last now t : ℤ) (every : ℕ) → IsDue last every now t ↔ ((now ≤ℤ t) × ((k : ℕ) × (1 ≤ k) × (t ≡ last +ℤ pos (k * every))))
+any_run last now t every = (
+  λ due. (due.reached, (due.periods, due.later, due.at)),
+  λ h. record { periods = h.1.0; later = h.1.1; at = h.1.2; reached = h.0 },
+)
