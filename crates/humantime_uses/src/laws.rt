@@ -1,10 +1,11 @@
-//! Callers of the laws. Each computes with public calls, and promises a concrete conclusion.
+//! Callers of the laws. Each computes with public calls, and promises what a law says of their results, or of the definitions.
 
-ghost use Rattle.std.specs.Prelude.{◌≡◌, ◌≢◌, ◌+◌, ◌/◌, ◌≤◌, ◌++◌, ◌∷◌, ◌<ℤ◌, ◌↔◌, ◌⊎◌, ℕ, ℤ, List, Option, Result, None, Some, Ok, Err, chars, length, option_map, slice_index, true, IfOk, IfSome, IsOk, IsPermutation, IsSome, IsTrue, SomeIff};
+ghost use Rattle.std.specs.Prelude.{◌≡◌, ◌≢◌, ◌+◌, ◌≤◌, ◌++◌, ◌∷◌, ◌<ℤ◌, ◌↔◌, ◌⊎◌, ℕ, ℤ, List, Option, Result, None, Some, Ok, Err, chars, length, pos, slice_index, true, IfSome, IsOk, IsPermutation, IsTrue, SomeIff};
 ghost use Rattle.std.specs.Ordering.{int_cmp, is_lt};
-ghost use Rattle.humantime.specs.Prelude.{Accepted, AcceptedWithZeros, AllHaveRoom, AreCounts, AreItems, AreReordered, Fault, Fields, HasFault, IsCanonicalOf, IsCanonicalText, IsMarked, IsPrintable, IsPrinted, IsStrict, IsStrictMoment, IsWeak, IsWeakMoment, Items, NumberOverflow, Reads, SpanView, SpelledSpan, WasAccepted, WithinLimits, additions, bare_zero, cut, canonical_answer, duration_answer, first_failed, nanos_per_second, older_additions, result_view, strict_checks, value, weak_answer, weak_checks, without_whitespace};
+ghost use Rattle.humantime.specs.Laws.{AcceptedAs, IsOutcome, IsZeroOrSpans};
+ghost use Rattle.humantime.specs.Timestamps.{moment_of};
+ghost use Rattle.humantime.specs.Prelude.{Accepted, AcceptedWithZeros, AllHaveRoom, AreCounts, AreItems, AreReordered, ExactlyOne, Fault, Fields, HasFault, IsCanonicalOf, IsCanonicalText, IsMarked, IsPrintable, IsPrinted, IsStrict, IsStrictMoment, IsWeak, IsWeakMoment, Items, NumberOverflow, Reads, SpanView, SpelledSpan, WasAccepted, WithinLimits, additions, bare_zero, cut, canonical_answer, duration_answer, duration_text, first_failed, older_additions, printed_text, result_view, strict_checks, value, weak_answer, weak_checks, without_whitespace};
 
-use crate::durations::limit_seconds;
 use humantime::laws::{
     canonical_again, joined, one_outcome, one_stamp_outcome, printed_bounds,
     printed_duration_reads, printed_durations_differ, printed_moment_reads, reordered,
@@ -14,35 +15,33 @@ use humantime::{
     DurationError, Rfc3339Timestamp, StdDuration, SystemTime, TimestampError, canonical,
     format_duration, format_rfc3339_nanos, parse_duration, parse_rfc3339, parse_rfc3339_weak,
 };
-use std::alloc::{AllocError, Global};
 use std::cmp::Ordering;
 
 /// What a parser of timestamps returns.
 pub type Parsed = Result<SystemTime, TimestampError>;
 
-/// Returns the whole seconds of the value with which a text is accepted, or its first error. A text never has both, its spans have one sum,
-/// and one error stops them, if any.
-pub fn whole_seconds(text: &str) -> Result<u64, DurationError<'_>>
-    ensures value { (v : ℕ) → Accepted (chars text.now) v → result_view result ≡ Ok (v / nanos_per_second) }
-    ensures fault { (e : Fault) → HasFault (chars text.now) e → result_view result ≡ Err e }
-    ensures either { (d : ℕ) (e : Fault) → Accepted (chars text.now) d → ¬ (HasFault (chars text.now) e) }
-    ensures stop { (ss : List SpelledSpan) (ts : List SpelledSpan) (o : Option Fault) (p : Option Fault) → Items (chars text.now) ss o → Items (chars text.now) ts p → (ss ≡ ts) × (o ≡ p) }
-    ensures sum { (ss : List SpelledSpan) (ts : List SpelledSpan) → Reads (chars text.now) ss → Reads (chars text.now) ts → value ss ≡ value ts }
+/// Parses a text. It has one value or one error, which the result is, one list of items, and at most one list of spans.
+pub fn decided_once(text: &str) -> Result<StdDuration, DurationError<'_>>
+    ensures outcome { ExactlyOne (IsOutcome (chars text.now)) }
+    ensures reading { (ss : List SpelledSpan) (ts : List SpelledSpan) → Reads (chars text.now) ss → Reads (chars text.now) ts → ss ≡ ts }
+    ensures items { ExactlyOne (λ (list : List SpelledSpan × Option Fault). Items (chars text.now) list.0 list.1) }
+    ensures value { (v : ℕ) → (duration_answer (chars text.now) ≡ Ok v) ↔ Accepted (chars text.now) v }
+    ensures fault { (e : Fault) → (duration_answer (chars text.now) ≡ Err e) ↔ HasFault (chars text.now) e }
+    ensures answer { result_view result ≡ duration_answer (chars text.now) }
 {
     one_outcome(text);
-    limit_seconds(text)
+    parse_duration(text)
 }
 
 /// Returns the duration that a text denotes, or its first error, as determined by its items and their limits and by the table of first
 /// errors. A text that was accepted by older rules is still accepted with the same value, and any spans add what they added.
 pub fn decided(text: &str) -> Result<StdDuration, DurationError<'_>>
     ensures items { (ss : List SpelledSpan) × (stop : Option Fault) × Items (chars text.now) ss stop }
-    ensures accepted { (ss : List SpelledSpan) (stop : Option Fault) → Items (chars text.now) ss stop → chars text.now ≢ bare_zero → (v : ℕ) → (result_view result ≡ Ok v) ↔ ((stop ≡ None) × WithinLimits ss × (value ss ≡ v)) }
-    ensures stopped { (ss : List SpelledSpan) (e : Fault) → Items (chars text.now) ss (Some e) → chars text.now ≢ bare_zero → WithinLimits ss → result_view result ≡ Err e }
-    ensures first { (items : List (Result SpanView Fault)) (others : List (Result SpanView Fault)) (e : Fault) → AreItems (chars text.now) items → items ≡ Err e ∷ others → chars text.now ≢ bare_zero → result_view result ≡ Err e }
-    ensures too_large { (ss : List SpelledSpan) (stop : Option Fault) → Items (chars text.now) ss stop → chars text.now ≢ bare_zero → ¬ (WithinLimits ss) → result_view result ≡ Err NumberOverflow }
-    ensures row { (e : Fault) → (result_view result ≡ Err e) ↔ HasFault (chars text.now) e }
-    ensures before { (v : ℕ) → AcceptedWithZeros (chars text.now) v → result_view result ≡ Ok v }
+    ensures accepted { (ss : List SpelledSpan) (stop : Option Fault) → Items (chars text.now) ss stop → chars text.now ≢ bare_zero → (v : ℕ) → Accepted (chars text.now) v ↔ ((stop ≡ None) × WithinLimits ss × (value ss ≡ v)) }
+    ensures stopped { (ss : List SpelledSpan) (e : Fault) → Items (chars text.now) ss (Some e) → chars text.now ≢ bare_zero → WithinLimits ss → HasFault (chars text.now) e }
+    ensures first { (items : List (Result SpanView Fault)) (others : List (Result SpanView Fault)) (e : Fault) → AreItems (chars text.now) items → items ≡ Err e ∷ others → chars text.now ≢ bare_zero → duration_answer (chars text.now) ≡ Err e }
+    ensures too_large { (ss : List SpelledSpan) (stop : Option Fault) → Items (chars text.now) ss stop → chars text.now ≢ bare_zero → ¬ (WithinLimits ss) → HasFault (chars text.now) NumberOverflow }
+    ensures before { (v : ℕ) → AcceptedWithZeros (chars text.now) v → Accepted (chars text.now) v }
     ensures still { WasAccepted (chars text.now) → IsOk result }
     ensures added { (ss : List SpelledSpan) → older_additions ss ≡ additions ss }
 {
@@ -53,7 +52,8 @@ pub fn decided(text: &str) -> Result<StdDuration, DurationError<'_>>
 
 /// Returns the canonical text of a duration. There is exactly one, and it has at most 64 bytes, 11 months and 30 days.
 pub fn canonical_text<'b>(duration: StdDuration, buf: &'b mut [u8; 64]) -> &'b str
-    ensures only { (bytes : List ℕ) → IsCanonicalText duration bytes → result.now ≡ bytes }
+    ensures text { result.now ≡ duration_text duration }
+    ensures only { (bytes : List ℕ) → IsCanonicalText duration bytes → bytes ≡ duration_text duration }
     ensures short { length result.now ≤ 64 }
     ensures small { (counts : List ℕ) → AreCounts duration counts → (slice_index counts 1 ≤ 11) × (slice_index counts 2 ≤ 30) }
 {
@@ -79,15 +79,21 @@ pub fn looks_same(a: StdDuration, b: StdDuration) -> bool
     format_duration(a).text(&mut [0; 64]) == format_duration(b).text(&mut [0; 64])
 }
 
-/// Returns the canonical text of the canonical text of a text, which is the same text and has the same value. Each accepted text has one.
-pub fn canonical_twice<'b>(text: &str, buf: &'b mut [u8; 64]) -> Option<&'b str>
-    ensures same { (t : List ℕ) → (option_map (λ twice. twice.now) result ≡ Some t) ↔ IsCanonicalOf text.now t }
-    ensures answer { (t : List ℕ) → (option_map (λ twice. twice.now) result ≡ Some t) ↔ (canonical_answer (chars text.now) ≡ Ok t) }
-    ensures some { (v : ℕ) → Accepted (chars text.now) v → IsSome result }
-    ensures value { (v : ℕ) → Accepted (chars text.now) v → IfSome result (λ twice. Accepted (chars twice.now) v) }
+/// Returns `true` if the canonical text of an accepted text is its own canonical text, which it always is. It has the same value.
+pub fn is_canonical_twice(text: &str) -> bool
+    ensures same { result ≡ true }
+    ensures some { (v : ℕ) → Accepted (chars text.now) v → (t : List ℕ) × IsCanonicalOf text.now t }
+    ensures value { (v : ℕ) (t : List ℕ) → Accepted (chars text.now) v → IsCanonicalOf text.now t → Accepted (chars t) v }
+    ensures again { (t : List ℕ) (twice : List ℕ) → IsCanonicalOf text.now t → (IsCanonicalOf t twice ↔ (twice ≡ t)) }
+    ensures text { (t : List ℕ) → (canonical_answer (chars text.now) ≡ Ok t) ↔ IsCanonicalOf text.now t }
+    ensures reads { (v : ℕ) (t : List ℕ) → duration_answer (chars text.now) ≡ Ok v → canonical_answer (chars text.now) ≡ Ok t → duration_answer (chars t) ≡ Ok v }
+    ensures fault { (e : Fault) → (canonical_answer (chars text.now) ≡ Err e) ↔ HasFault (chars text.now) e }
 {
     canonical_again(text);
-    canonical(canonical(text, &mut [0; 64]).ok()?, buf).ok()
+    match canonical(text, &mut [0; 64]) {
+        Ok(once) => canonical(once, &mut [0; 64]) == Ok(once),
+        Err(_) => true,
+    }
 }
 
 /// Returns `true` if a valid duration keeps its value without its whitespace, which it always does.
@@ -101,12 +107,14 @@ pub fn needs_no_space(text: &str, squeezed: &str) -> bool
     }
 }
 
-/// Parses two accepted texts that were joined. The result is their sum if and only if no addition overflows, and an overflow otherwise.
+/// Parses two accepted texts that were joined. They have the sum of their values if no addition overflows, and otherwise overflow.
 pub fn sum_of<'a>(a: &str, b: &str, both: &'a str) -> Result<StdDuration, DurationError<'a>>
-    ensures sum { (ss : List SpelledSpan) (ts : List SpelledSpan) (u : ℕ) (v : ℕ) → Reads (chars a.now) ss → Reads (chars b.now) ts → Accepted (chars a.now) u → Accepted (chars b.now) v → both.now ≡ a.now ++ b.now → (result_view result ≡ Ok (u + v)) ↔ AllHaveRoom (additions ss ++ additions ts) }
-    ensures overflow { (ss : List SpelledSpan) (ts : List SpelledSpan) (u : ℕ) (v : ℕ) → Reads (chars a.now) ss → Reads (chars b.now) ts → Accepted (chars a.now) u → Accepted (chars b.now) v → both.now ≡ a.now ++ b.now → (result_view result ≡ Err NumberOverflow) ↔ ¬ (AllHaveRoom (additions ss ++ additions ts)) }
-    ensures spans { (u : ℕ) (v : ℕ) → Accepted (chars a.now) u → Accepted (chars b.now) v → both.now ≡ a.now ++ b.now → chars a.now ≢ bare_zero → chars b.now ≢ bare_zero → (ss : List SpelledSpan) × (ts : List SpelledSpan) × ((result_view result ≡ Ok (u + v)) ↔ AllHaveRoom (additions ss ++ additions ts)) }
-    ensures either { (u : ℕ) (v : ℕ) → duration_answer (chars a.now) ≡ Ok u → duration_answer (chars b.now) ≡ Ok v → both.now ≡ a.now ++ b.now → chars a.now ≢ bare_zero → chars b.now ≢ bare_zero → (result_view result ≡ Ok (u + v)) ⊎ (result_view result ≡ Err NumberOverflow) }
+    ensures first { IsZeroOrSpans (chars a.now) }
+    ensures second { IsZeroOrSpans (chars b.now) }
+    ensures sum { (ss : List SpelledSpan) (ts : List SpelledSpan) (u : ℕ) (v : ℕ) → AcceptedAs (chars a.now) ss u → AcceptedAs (chars b.now) ts v → Accepted (chars a.now ++ chars b.now) (u + v) ↔ AllHaveRoom (additions ss ++ additions ts) }
+    ensures overflow { (ss : List SpelledSpan) (ts : List SpelledSpan) (u : ℕ) (v : ℕ) → AcceptedAs (chars a.now) ss u → AcceptedAs (chars b.now) ts v → HasFault (chars a.now ++ chars b.now) NumberOverflow ↔ ¬ (AllHaveRoom (additions ss ++ additions ts)) }
+    ensures either { (u : ℕ) (v : ℕ) → duration_answer (chars a.now) ≡ Ok u → duration_answer (chars b.now) ≡ Ok v → chars a.now ≢ bare_zero → chars b.now ≢ bare_zero → (duration_answer (chars a.now ++ chars b.now) ≡ Ok (u + v)) ⊎ (duration_answer (chars a.now ++ chars b.now) ≡ Err NumberOverflow) }
+    ensures answer { both.now ≡ a.now ++ b.now → result_view result ≡ duration_answer (chars a.now ++ chars b.now) }
 {
     joined(a, b);
     parse_duration(both)
@@ -116,7 +124,7 @@ pub fn sum_of<'a>(a: &str, b: &str, both: &'a str) -> Result<StdDuration, Durati
 pub fn read_alike(a: &str, b: &str) -> bool
     ensures spans { (ss : List SpelledSpan) (ts : List SpelledSpan) → Reads (chars a.now) ss → Reads (chars b.now) ts → IsPermutation ss ts → result ≡ true }
     ensures texts { AreReordered (chars a.now) (chars b.now) → result ≡ true }
-    ensures zero { chars a.now ≡ bare_zero → ¬ (AreReordered (chars a.now) (chars b.now)) }
+    ensures zero { (spans : List SpelledSpan) → ¬ (Reads bare_zero spans) }
 {
     reordered(a, b);
     match (parse_duration(a), parse_duration(b)) {
@@ -125,20 +133,19 @@ pub fn read_alike(a: &str, b: &str) -> bool
     }
 }
 
-/// Returns whether a text is in the weak form, and whether it is in the strict form. In a form it has one set of parts, and fails no check.
-pub fn forms_of(text: &str) -> (bool, bool)
-    ensures weak { IsTrue result.0 ↔ ((f : Fields) × IsWeak text.now f) }
-    ensures strict { IsTrue result.1 ↔ ((f : Fields) × IsStrict text.now f) }
+/// Parses a text in both forms. A text has parts in a form if and only if it fails no check there, and then only these.
+pub fn in_both_forms(text: &str) -> (Parsed, Parsed)
+    ensures weak { (t : ℤ) → (result.0 ≡ Ok t) ↔ ((f : Fields) × IsWeak text.now f × (t ≡ pos (moment_of f))) }
+    ensures strict { (t : ℤ) → (result.1 ≡ Ok t) ↔ ((f : Fields) × IsStrict text.now f × (t ≡ pos (moment_of f))) }
+    ensures weak_error { (e : TimestampError) → (result.0 ≡ Err e) ↔ (first_failed (weak_checks text.now) ≡ Some e) }
+    ensures strict_error { (e : TimestampError) → (result.1 ≡ Err e) ↔ (first_failed (strict_checks text.now) ≡ Some e) }
+    ensures weak_parts { ((f : Fields) × IsWeak text.now f) ↔ (first_failed (weak_checks text.now) ≡ None) }
+    ensures strict_parts { ((f : Fields) × IsStrict text.now f) ↔ (first_failed (strict_checks text.now) ≡ None) }
     ensures one { (f : Fields) (g : Fields) → IsWeak text.now f → IsWeak text.now g → f ≡ g }
     ensures one_strict { (f : Fields) (g : Fields) → IsStrict text.now f → IsStrict text.now g → f ≡ g }
-    ensures checked { (f : Fields) → IsWeak text.now f → first_failed (weak_checks text.now) ≡ None }
-    ensures checked_strictly { (f : Fields) → IsStrict text.now f → first_failed (strict_checks text.now) ≡ None }
 {
     one_stamp_outcome(text);
-    (
-        parse_rfc3339_weak(text).is_ok(),
-        parse_rfc3339(text).is_ok(),
-    )
+    (parse_rfc3339_weak(text), parse_rfc3339(text))
 }
 
 /// Returns `true` if a text has a `T` and a zone.
@@ -170,13 +177,14 @@ pub fn printed_and_parsed(moment: SystemTime) -> Option<(Parsed, Parsed)>
     Some((parse_rfc3339(text), parse_rfc3339_weak(text)))
 }
 
-/// Returns `true` if `Display` writes a timestamp of 1970 to 9999 as `text` returns it, which it always does.
-pub fn is_displayed(alloc: Global, shown: &Rfc3339Timestamp) -> Result<bool, AllocError>
-    ensures { IsPrintable shown.now.moment → IfOk result (λ same. same ≡ true) }
+/// Returns the text of a timestamp of 1970 to 9999, which is the only one, and which `Display` writes.
+pub fn only_text<'b>(shown: &Rfc3339Timestamp, buf: &'b mut [u8; 30]) -> Option<&'b str>
+    ensures one { IsPrintable shown.now.moment → ExactlyOne (IsPrinted shown.now.moment shown.now.places) }
+    ensures displayed { (text : List ℕ) → (printed_text shown.now ≡ Some text) ↔ (IsPrintable shown.now.moment × IsPrinted shown.now.moment shown.now.places text) }
+    ensures text { IfSome result (λ text. IsPrinted shown.now.moment shown.now.places text.now) }
 {
     printed_moment_reads(shown);
-    let written = format!(in alloc; "{}", *shown)?;
-    Ok(shown.text(&mut [0; 30]) == Some(written.as_str()))
+    shown.text(buf)
 }
 
 /// Compares two texts with the same number of digits, which are ordered like their moments, rounded down.
