@@ -1,8 +1,5 @@
-pub mod CountedDays
-pub mod FirstDigits
+pub mod Callers
 pub mod Kept
-pub mod LastErrors
 pub mod LimitFacts
-pub mod Rounding
 pub mod TextFacts
 pub mod TimestampFacts

@@ -27,30 +27,25 @@ pub fn write_limit<W: Write>(limit: Duration, at: Timestamp, out: &mut W) -> fmt
     write!(out, "{limit} from {at}")
 }
 
+/// The text of a row of a table, unless there is no memory for it.
+pub type Row = Result<String, AllocError>;
+
 /// Returns a row of a table: the time that something took, and its limit.
-pub fn limits_row(alloc: Global, took: StdDuration, limit: Duration) -> Result<String, AllocError>
+pub fn limits_row(alloc: Global, took: StdDuration, limit: Duration) -> Row
     ensures { IfOk result (λ row. string_bytes row ≡ duration_text took ++ (codes " of " ++ duration_text limit)) }
 {
     format!(in alloc; "{:>80} of {limit:-<9}", format_duration(took))
 }
 
 /// Returns a row of a table: a start and an end.
-pub fn stamps_row(
-    alloc: Global,
-    start: Timestamp,
-    end: &Rfc3339Timestamp,
-) -> Result<String, AllocError>
+pub fn stamps_row(alloc: Global, start: Timestamp, end: &Rfc3339Timestamp) -> Row
     ensures { (first : List ℕ) (last : List ℕ) → shortest_text start ≡ Some first → printed_text end.now ≡ Some last → IfOk result (λ row. string_bytes row ≡ first ++ (codes " to " ++ last)) }
 {
     format!(in alloc; "{start:>40} to {end:.3}")
 }
 
 /// Returns a row of a table: the errors of a limit and of a start.
-pub fn errors_row(
-    alloc: Global,
-    limit: &DurationError<'_>,
-    start: &TimestampError,
-) -> Result<String, AllocError>
+pub fn errors_row(alloc: Global, limit: &DurationError<'_>, start: &TimestampError) -> Row
     ensures { IfOk result (λ row. string_bytes row ≡ fault_message (fault_of limit.now) ++ (codes ", " ++ timestamp_message start.now)) }
 {
     format!(in alloc; "{limit:>80}, {start:^3}")

@@ -1,10 +1,10 @@
 //! Limits, sums and offsets of errors: callers that parse and print durations.
 
-ghost use Rattle.std.specs.Prelude.{◌≡◌, ◌+◌, ◌*◌, ◌/◌, ◌<◌, ◌≤◌, ◌↔◌, ℕ, List, [], chars, drop, slice_range, option_map, true, IfSome, IfOk, IsSome, IsOk, IsOkAnd, IsErrAnd, IsTrue, SomeIff, None, Ok, Err};
+ghost use Rattle.std.specs.Prelude.{◌≡◌, ◌+◌, ◌*◌, ◌/◌, ◌<◌, ◌≤◌, ◌↔◌, ℕ, List, [], chars, drop, slice_range, true, IfSome, IfOk, IsSome, IsOk, IsOkAnd, IsErrAnd, IsTrue, SomeIff, Ok, Err};
 ghost use Rattle.std.specs.Result.{result_map_both};
-ghost use Rattle.humantime.specs.Prelude.{Accepted, IsCanonicalText, Fault, InvalidCharacter, NumberExpected, UnknownUnit, NumberOverflow, Empty, duration_answer, duration_end, result_view, fault_of, place_of, nanos_per_second};
+ghost use Rattle.humantime.specs.Prelude.{Accepted, IsCanonicalOf, IsCanonicalText, Fault, InvalidCharacter, NumberExpected, UnknownUnit, NumberOverflow, Empty, duration_answer, duration_end, result_view, text_result_view, fault_of, nanos_per_second};
 
-use humantime::{DurationError, StdDuration, format_duration, parse_duration};
+use humantime::{DurationError, StdDuration, canonical, format_duration, parse_duration};
 
 /// Returns the whole seconds of a time limit in a settings file, or the error of its text.
 pub fn limit_seconds(text: &str) -> Result<u64, DurationError<'_>>
@@ -43,16 +43,6 @@ pub fn end_of<'a>(start: &'a str, len: &'a str) -> Result<Option<StdDuration>, D
     Ok(parse_duration(start)?.checked_add(parse_duration(len)?))
 }
 
-/// Returns `true` if both texts are valid durations, and the first is not longer than the second.
-pub fn is_within(text: &str, most: &str) -> bool
-    ensures { IsTrue result ↔ ((v : ℕ) × (w : ℕ) × (duration_answer (chars text.now) ≡ Ok v) × (duration_answer (chars most.now) ≡ Ok w) × (v ≤ w)) }
-{
-    match (parse_duration(text), parse_duration(most)) {
-        (Ok(d), Ok(limit)) => d <= limit,
-        _ => false,
-    }
-}
-
 /// Returns what to underline in a text that is not a valid duration: its unknown unit, or the rest from the error's offset on.
 pub fn underlined(text: &str) -> &str
     ensures character { (at : ℕ) → duration_answer (chars text.now) ≡ Err (InvalidCharacter at) → result.now ≡ drop at text.now }
@@ -69,19 +59,11 @@ pub fn underlined(text: &str) -> &str
     }
 }
 
-/// Returns the offset of a text's error in a line that has `before` bytes before the text, or `None` if no offset is known.
-pub fn place_in_line(text: &str, before: u32) -> Option<u64>
-    ensures error { (e : Fault) → duration_answer (chars text.now) ≡ Err e → result ≡ option_map (λ at. before + at) (place_of e) }
-    ensures read { IsOk (duration_answer (chars text.now)) → result ≡ None }
+/// Returns the canonical text of a duration, or its first error.
+pub fn normalized<'a, 'b>(s: &'a str, buf: &'b mut [u8; 64]) -> Result<&'b str, DurationError<'a>>
+    ensures { (t : List ℕ) → (text_result_view result ≡ Ok t) ↔ IsCanonicalOf s.now t }
 {
-    match parse_duration(text) {
-        Err(DurationError::InvalidCharacter(at) | DurationError::NumberExpected(at)) => {
-            Some(before as u64 + at as u64)
-        }
-        Err(DurationError::UnknownUnit { start, .. }) => Some(before as u64 + start as u64),
-        Err(DurationError::Empty) => Some(before as u64),
-        _ => None,
-    }
+    canonical(s, buf)
 }
 
 /// Returns `true` if two errors are the same.

@@ -1,14 +1,13 @@
 //! Errors point into their texts, and become errors of the caller.
 
-ghost use Rattle.std.specs.Prelude.{◌≡◌, ◌++◌, ◌+ℤ◌, ◌<ℤ◌, ℕ, ℤ, pos, chars, codes, true, IfSome, IsErrAnd, IsOkAnd, List, Some, SomeIff, Ok, Err};
+ghost use Rattle.std.specs.Prelude.{◌≡◌, ◌++◌, ◌+ℤ◌, ◌<ℤ◌, ℕ, ℤ, pos, chars, codes, true, IsErrAnd, IsOkAnd, List, Some, SomeIff, Ok, Err};
 ghost use Rattle.humantime.specs.declared.TimestampError.{TimestampError};
 ghost use Rattle.humantime.specs.declared.DurationError.{DurationError};
-ghost use Rattle.humantime.specs.Prelude.{Fault, PointsInto, duration_answer, fault_message, fault_of, moment_end, strict_answer, text_of, timestamp_message};
+ghost use Rattle.humantime.specs.Prelude.{Fault, PointsInto, duration_answer, fault_message, fault_of, moment_end, strict_answer, timestamp_message};
 ghost use Rattle.humantime_uses.specs.declared.errors.LineError.TheVariants.{Start, Limit};
 
 use humantime::{
-    Duration, DurationError, SpanIter, SystemTime, TimestampError, canonical, parse_duration,
-    parse_rfc3339,
+    Duration, DurationError, SystemTime, TimestampError, canonical, parse_duration, parse_rfc3339,
 };
 use std::fmt;
 
@@ -31,34 +30,13 @@ fn is_in(error: DurationError<'_>, text: &str) -> bool
     }
 }
 
-/// Returns `true` if the error of a text, if it has one, points into it, which it always does.
+/// Returns `true` if the errors of a text, if it has any, point into it, which they always do.
 pub fn points_into(text: &str) -> bool
     ensures { result ≡ true }
 {
-    match Duration::from_str(text) {
-        Err(error) => is_in(error, text),
-        Ok(_) => true,
-    }
-}
-
-/// Returns `true` if the error of `canonical`, if there is one, points into its text, which it always does.
-pub fn canonical_points_into(text: &str) -> bool
-    ensures { result ≡ true }
-{
-    match canonical(text, &mut [0; 64]) {
-        Err(error) => is_in(error, text),
-        Ok(_) => true,
-    }
-}
-
-/// Returns the next item, if it is an error, which points into the text of the items.
-pub fn next_error<'a>(items: &mut SpanIter<'a>) -> Option<DurationError<'a>>
-    ensures error { IfSome result (PointsInto (text_of items.old)) }
-    ensures text { text_of items.new ≡ text_of items.old }
-{
-    match items.next() {
-        Some(Err(error)) => Some(error),
-        _ => None,
+    match (Duration::from_str(text), canonical(text, &mut [0; 64])) {
+        (Err(error), Err(other)) => is_in(error, text) && is_in(other, text),
+        _ => true,
     }
 }
 

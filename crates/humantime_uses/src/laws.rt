@@ -41,6 +41,8 @@ pub fn decided(text: &str) -> Result<StdDuration, DurationError<'_>>
     ensures stopped { (ss : List SpelledSpan) (e : Fault) → Items (chars text.now) ss (Some e) → chars text.now ≢ bare_zero → WithinLimits ss → HasFault (chars text.now) e }
     ensures first { (items : List (Result SpanView Fault)) (others : List (Result SpanView Fault)) (e : Fault) → AreItems (chars text.now) items → items ≡ Err e ∷ others → chars text.now ≢ bare_zero → duration_answer (chars text.now) ≡ Err e }
     ensures too_large { (ss : List SpelledSpan) (stop : Option Fault) → Items (chars text.now) ss stop → chars text.now ≢ bare_zero → ¬ (WithinLimits ss) → HasFault (chars text.now) NumberOverflow }
+    ensures value { (v : ℕ) → (result_view result ≡ Ok v) ↔ Accepted (chars text.now) v }
+    ensures fault { (e : Fault) → (result_view result ≡ Err e) ↔ HasFault (chars text.now) e }
     ensures before { (v : ℕ) → AcceptedWithZeros (chars text.now) v → Accepted (chars text.now) v }
     ensures still { WasAccepted (chars text.now) → IsOk result }
     ensures added { (ss : List SpelledSpan) → older_additions ss ≡ additions ss }

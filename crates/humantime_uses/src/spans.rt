@@ -1,12 +1,12 @@
 //! Callers that iterate over the spans of a text, and use what these borrow.
 
-ghost use Rattle.std.specs.Prelude.{◌≡◌, List, Option, Result, chars, flat_map, is_ok, option_map, true, IfSome};
+ghost use Rattle.std.specs.Prelude.{◌≡◌, ◌∷◌, List, Ok, Err, Option, Result, chars, flat_map, is_ok, option_map, true, IfErr, IfOk, IfSome};
 ghost use Rattle.std.specs.List.{list_all};
-ghost use Rattle.humantime.specs.Prelude.{AreItems, Fault, IsTiled, SpanView, items_left, slices_of, span_view};
-ghost use Rattle.humantime_uses.specs.SpanItems.{HasDigitEnds, first_span, longest_of};
+ghost use Rattle.humantime.specs.Prelude.{AreItems, Fault, IsTiled, PointsInto, SpanView, fault_of, items_left, slices_of, text_of};
+ghost use Rattle.humantime_uses.specs.SpanItems.{longest_of};
 
 use humantime::laws::spans_tile;
-use humantime::{Span, SpanIter, StdDuration, parse_duration, spans};
+use humantime::{DurationError, SpanIter, StdDuration, parse_duration, spans};
 
 /// Returns the longest span of a text, each span parsed on its own, or zero if no span is a duration.
 pub fn longest_span(text: &str) -> StdDuration
@@ -21,32 +21,27 @@ pub fn longest_span(text: &str) -> StdDuration
     longest
 }
 
-/// Returns the first item of a text, if it is a span.
-fn first_span(text: &str) -> Option<Span<'_>>
-    ensures { (items : List (Result SpanView Fault)) × AreItems (chars text.now) items × (option_map span_view result ≡ first_span items) }
-{
-    match spans(text).next() {
-        Some(Ok(span)) => Some(span),
-        _ => None,
-    }
-}
+/// A number, a fraction, a unit, the offsets of a start and an end, and the value of the number.
+pub type Parts<'a> = (&'a str, Option<&'a str>, &'a str, usize, usize, u64);
 
-/// Returns the number, the fraction, the unit, the offsets and the value of the first span of a text.
-///
-/// The number and the fraction begin and end with a digit.
-pub fn first_parts(text: &str) -> Option<(&str, Option<&str>, &str, usize, usize, u64)>
-    ensures parts { (items : List (Result SpanView Fault)) × AreItems (chars text.now) items × (option_map {U = SpanView} (λ x. record { number = chars x.0.now; fraction = option_map (λ t. chars t.now) x.1; unit = chars x.2.now; start = x.3; end = x.4; value = x.5 }) result ≡ first_span items) }
-    ensures digits { IfSome result (λ x. HasDigitEnds (chars x.0.now) × IfSome x.1 (λ fraction. HasDigitEnds (chars fraction.now))) }
+/// Returns the parts of the next item, or its error, which points into the text of the items.
+pub fn next_parts<'a>(items: &mut SpanIter<'a>) -> Option<Result<Parts<'a>, DurationError<'a>>>
+    ensures parts { IfSome result (λ item. IfOk item (λ x. items_left items.old ≡ Ok (record { number = chars x.0.now; fraction = option_map (λ t. chars t.now) x.1; unit = chars x.2.now; start = x.3; end = x.4; value = x.5 }) ∷ items_left items.new)) }
+    ensures error { IfSome result (λ item. IfErr item (λ e. PointsInto (text_of items.old) e × (items_left items.old ≡ Err (fault_of e) ∷ items_left items.new))) }
+    ensures text { text_of items.new ≡ text_of items.old }
 {
-    let span = first_span(text)?;
-    Some((
+    let span = match items.next()? {
+        Ok(span) => span,
+        Err(error) => return Some(Err(error)),
+    };
+    Some(Ok((
         span.number(),
         span.fraction(),
         span.unit(),
         span.start(),
         span.end(),
         span.value(),
-    ))
+    )))
 }
 
 /// Returns `true` if no item of a text follows an error, which none ever does.

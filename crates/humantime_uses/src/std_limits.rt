@@ -1,10 +1,10 @@
 //! Callers of `humantime_std`, whose results are known up to the limits of the types.
 
-ghost use Rattle.std.specs.Prelude.{◌≡◌, ◌≢◌, ◌+◌, ◌*◌, ◌/◌, ◌≤◌, ◌⊎◌, ◌↔◌, ◌∷◌, [], ◌+ℤ◌, ◌≤ℤ◌, ◌<ℤ◌, ℕ, chars, min, pos, slice_range, option_map, Err, IfSome, IsNone, IsOk, IsSomeAnd, IsTrue, None, Some, SomeIff};
+ghost use Rattle.std.specs.Prelude.{◌≡◌, ◌≢◌, ◌+◌, ◌*◌, ◌/◌, ◌≤◌, ◌⊎◌, ◌↔◌, ◌∷◌, [], ◌+ℤ◌, ◌≤ℤ◌, ℤ, chars, min, pos, slice_range, option_map, Err, IfSome, IsNone, IsOk, IsTrue, None, Some, SomeIff};
 ghost use Rattle.std.specs.Time.{FitsClock, instant_nanos};
 ghost use Rattle.humantime.specs.Prelude.{Fault, duration_answer, moment_end};
 ghost use Rattle.humantime_std.specs.Located.{IsFaultRange, IsRangeIn, weak_error};
-ghost use Rattle.humantime_std.specs.Schedule.{IsNextRun};
+ghost use Rattle.humantime_std.specs.Schedule.{IsDue, IsNextRun};
 
 use humantime::{DurationError, StdDuration, SystemTime};
 use humantime_std::located::{self, parse_rfc3339_weak};
@@ -58,17 +58,10 @@ pub fn left_at_start(start: Instant, limit: StdDuration) -> Option<StdDuration>
     Some(time_left(start, deadline(start, limit)?))
 }
 
-/// Returns the first run that is not before `now`. A run is one or more whole periods after `last`.
-pub fn first_run(last: SystemTime, every: StdDuration, now: SystemTime) -> Option<SystemTime>
-    ensures run { IfSome result (λ t. (now ≤ℤ t) × ((k : ℕ) × (1 ≤ k) × (t ≡ last +ℤ pos (k * every)))) }
-    ensures first { (k : ℕ) → 1 ≤ k → let t = last +ℤ pos (k * every) in now ≤ℤ t → t <ℤ moment_end → IsSomeAnd result (λ next. next ≤ℤ t) }
-{
-    next_run(last, every, now)
-}
-
-/// Returns how long to wait for the next run of a job.
+/// Returns how long to wait for the next run of a job, or `None` if no `SystemTime` is a time at which a run is due.
 pub fn wait_for(last: SystemTime, every: StdDuration, now: SystemTime) -> Option<StdDuration>
-    ensures { IfSome result (λ wait. IsNextRun last every now (now +ℤ pos wait)) }
+    ensures next { IfSome result (λ wait. IsNextRun last every now (now +ℤ pos wait)) }
+    ensures none { IsNone result → (t : ℤ) → IsDue last every now t → moment_end ≤ℤ t }
 {
     next_run(last, every, now)?.duration_since(now).ok()
 }

@@ -1,13 +1,13 @@
 //! Lines of a log: callers that parse, print and compare timestamps.
 
-ghost use Rattle.std.specs.Prelude.{◌≡◌, ◌↔◌, ◌<ℤ◌, ◌≤ℤ◌, ℤ, pos, ◌+ℤ◌, IsTrue, IsSome, IsSomeAnd, IfSome, IfOk, IsOkAnd, Ok, Err, SomeIff, string_bytes};
+ghost use Rattle.std.specs.Prelude.{◌≡◌, ◌↔◌, ◌<ℤ◌, ◌≤ℤ◌, ℤ, IsTrue, IsSome, IsSomeAnd, IfSome, IfOk, IsOkAnd, Ok, Err, string_bytes};
 ghost use Rattle.std.specs.Ordering.{int_cmp};
 ghost use Rattle.humantime.specs.declared.TimestampError.{TimestampError};
-ghost use Rattle.humantime.specs.Prelude.{weak_answer, strict_answer, IsPrinted, IsPrintedWith, IsPrintable, cut, moment_end, places_of};
+ghost use Rattle.humantime.specs.Prelude.{weak_answer, strict_answer, IsPrinted, IsPrintedWith, IsPrintable, cut, places_of};
 
 use humantime::{
-    StdDuration, SystemTime, TimestampError, format_rfc3339, format_rfc3339_micros,
-    format_rfc3339_millis, format_rfc3339_seconds, parse_rfc3339, parse_rfc3339_weak,
+    SystemTime, TimestampError, format_rfc3339, format_rfc3339_micros, format_rfc3339_millis,
+    format_rfc3339_seconds, parse_rfc3339, parse_rfc3339_weak,
 };
 use std::alloc::{AllocError, Global};
 use std::cmp::Ordering;
@@ -19,21 +19,6 @@ pub fn is_since(stamp: &str, from: SystemTime) -> Result<bool, TimestampError>
 {
     let moment = parse_rfc3339(stamp)?;
     Ok(from <= moment)
-}
-
-/// Returns the moment `time` after the one in a text, or `None` if no `SystemTime` represents it.
-pub fn later_than(text: &str, time: StdDuration) -> Result<Option<SystemTime>, TimestampError>
-    ensures moment { (t : ℤ) → weak_answer text.now ≡ Ok t → IsOkAnd result (λ later. SomeIff later ((t +ℤ pos time) <ℤ moment_end) (t +ℤ pos time)) }
-    ensures error { (e : TimestampError) → (result ≡ Err e) ↔ (weak_answer text.now ≡ Err e) }
-{
-    Ok(parse_rfc3339_weak(text)?.checked_add(time))
-}
-
-/// Returns `true` if two texts denote the same moment, or have the same error.
-pub fn is_same_moment(text: &str, other: &str) -> bool
-    ensures { IsTrue result ↔ (weak_answer text.now ≡ weak_answer other.now) }
-{
-    parse_rfc3339_weak(text) == parse_rfc3339_weak(other)
 }
 
 /// Returns the timestamp at the start of a line, with whole seconds, or `None` outside 1970 to 9999.
@@ -68,6 +53,7 @@ pub fn is_stamp(text: &str) -> bool
 }
 
 /// Compares two such stamps by their bytes, which are ordered like the moments that they denote.
+#[tactic(auto, using(crate::proofs::Callers::millis_in_order))]
 pub fn compare_stamps(stamp: &str, other: &str) -> Ordering
     ensures { (a : ℤ) (b : ℤ) → IsPrintedWith 3 stamp.now → IsPrintedWith 3 other.now → strict_answer stamp.now ≡ Ok a → strict_answer other.now ≡ Ok b → result ≡ int_cmp a b }
 {

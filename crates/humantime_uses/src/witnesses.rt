@@ -72,14 +72,6 @@ pub fn is_same_other(a: &Others, b: &Others) -> bool
     *a == *b
 }
 
-/// Feeds two equal values to two hashers, which keeps their states equal.
-pub fn feed_alike<T: Hash, H: Hasher>(a: &T, b: &T, first: &mut H, second: &mut H)
-    ensures { IsTrue (T.eq a.now b.now) → first.old ≡ second.old → first.new ≡ second.new }
-{
-    a.hash(first);
-    b.hash(second);
-}
-
 /// A value of each type that can be hashed.
 pub type Times = (StdDuration, SystemTime, Duration, Timestamp);
 
@@ -87,7 +79,8 @@ pub type Times = (StdDuration, SystemTime, Duration, Timestamp);
 pub fn times_feed_alike<H: Hasher>(a: &Times, b: &Times, first: &mut H, second: &mut H)
     ensures { a.now ≡ b.now → first.old ≡ second.old → first.new ≡ second.new }
 {
-    feed_alike(a, b, first, second);
+    a.hash(first);
+    b.hash(second);
 }
 
 /// A value of each type that can be copied.

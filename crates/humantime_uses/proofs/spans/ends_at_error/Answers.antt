@@ -1,4 +1,4 @@
-use Rattle.humantime_uses.proofs.LastErrors.{items_end}
+use Rattle.humantime_uses.proofs.Callers.{items_end}
 use Rattle.humantime_uses.proofs.spans.ends_at_error.Goals as goal
 
 pub loop-item-init : goal.loop-item-init
