@@ -1,4 +1,4 @@
--- The contents of a buffer once a result that borrowed from it is gone, as a caller can use them.
+-- The contents of a buffer once a result that borrowed from it is gone, as a caller can use them, with the words of the kit for its proof.
 use seplogic.Ra.Ura.{Ura}
 use base.Fml.{fres}
 use base.Logic.{ent, sep, ex, ex_e}
@@ -7,12 +7,20 @@ use types.Logic.{Logic, sem}
 use types.Kit.{‵, ◌$◌, ◌∵◌, !, qed, show, done}
 use denote.Follow.{such_by, follows_by}
 use denote.Triple.Walked.{says}
-use Rattle.std.proofs.Common.{◌≡◌, ℕ, List, [], ◌∷◌, refl, Bor, MutBor}
+pub use types.Run.{unit_lit}
+pub use denote.Ref.{Bor}
+pub use denote.Memory.{lone}
+pub use denote.Lend.{lends_again, comes_back, LentAgain}
+pub use denote.RattleType.{RattleType}
+pub use denote.Signature.{type_at}
+pub use denote.Triple.Clauses.{Lasts}
+pub use denote.Triple.Walked.{stay_ref, Goes-ref}
+pub use types.Tokens.{lft_new, lft_end}
+use Rattle.std.proofs.Common.{◌≡◌, ℕ, List, [], ◌∷◌, refl, MutBor}
 use Rattle.std.specs.Prelude.{Option, None, Some, IsSome, IfNone, ◌↔◌, Result, Ok, Err, OnErr}
-use Rattle.std.specs.Borrow.{Array, u8}
+pub use Rattle.std.specs.Borrow.{Array, u8}
 use Rattle.humantime.specs.Buffers.{BufferHolds}
-use Rattle.humantime.specs.DurationErrors.{text_result_view}
-use Rattle.humantime.specs.DurationErrors.{Fault}
+use Rattle.humantime.specs.DurationErrors.{Fault, text_result_view}
 use Rattle.humantime.specs.declared.duration.error.DurationError.{DurationError}
 
 -- The last bytes of the buffer, of which `P` holds.

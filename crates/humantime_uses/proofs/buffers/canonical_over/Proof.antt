@@ -1,24 +1,10 @@
 use Rattle.humantime.proofs.StandardFacts.{Val, ◌≡◌, ℕ, List, [], ◌∷◌, refl, MutBor, proved, full_share, id⊢, ftrue, flft, fres, named, vunit, fact, tables, ‵, raw, ◌⊛◌, some, later, ◌$◌, ◌∵◌, !, qed, done, move, keep, use1, use2, use3, split, join, fjoin, feq_i, pick, await, suffices, enter, addr, stop, no_more, and_then, returns, alloc_all, pass_all, free_all, look_at, get, through, sets, of_opd, lands_as, shows, MutRef, mut_vals, mut_Tells, plain, nothing, heard, peeks, calls_at, lasts, triple_of, Stays, stay_dropped, Goes-dropped, ends_at, says, yes, framed}
-use types.Run.{unit_lit}
-use Rattle.std.specs.Borrow.{Array, u8}
+use Rattle.humantime_uses.proofs.Kept.{unit_lit, Array, u8, Bor, lone, lends_again, comes_back, LentAgain, RattleType, type_at, Lasts, stay_ref, Goes-ref, lft_new, lft_end, last_held, kept_at_fault}
 use Rattle.std.specs.Prelude.{Result, Ok, Err, IfErr, OnErr, ◌↔◌, length, chars}
-use denote.Ref.{Bor}
 use denote.Slice.{slice_val}
 use denote.Text.{StrRefOf, str-laws, Str}
-use denote.Memory.{lone}
-use denote.Lend.{lends_again, comes_back, LentAgain}
-use denote.RattleType.{RattleType}
-use denote.Signature.{type_at}
-use denote.Triple.Clauses.{Lasts}
-use denote.Triple.Walked.{stay_ref, Goes-ref}
-use types.Tokens.{lft_new, lft_end}
-use Rattle.humantime.specs.Buffers.{KeptAtErr}
+use Rattle.humantime.specs.Prelude.{Fault, HasFault, IsCanonicalOf, KeptAtErr, PointsInto, canonical_answer, text_result_view}
 use Rattle.humantime.specs.declared.duration.error.DurationError.{DurationError}
-use Rattle.humantime.specs.PrintedDurations.{IsCanonicalOf}
-use Rattle.humantime.specs.DurationErrors.{text_result_view, PointsInto}
-use Rattle.humantime.specs.DurationErrors.{Fault, HasFault}
-use Rattle.humantime.specs.DurationResults.{canonical_answer}
-use Rattle.humantime_uses.proofs.Kept.{last_held, kept_at_fault}
 use Rattle.humantime.specs.contracts.canonical as g
 use Rattle.humantime.proofs.canonical.Met as g-met
 use Rattle.humantime_uses.specs.contracts.buffers.canonical_over as f

@@ -1,19 +1,8 @@
 use Rattle.humantime.proofs.StandardFacts.{Val, ◌≡◌, ℕ, List, [], ◌∷◌, refl, MutBor, proved, full_share, id⊢, ftrue, flft, fres, named, vunit, fact, tables, ‵, raw, ◌⊛◌, some, later, ◌$◌, ◌∵◌, !, qed, done, move, keep, use1, use2, use3, split, join, fjoin, feq_i, pick, await, suffices, enter, addr, stop, no_more, and_then, returns, alloc_all, pass_all, free_all, look_at, get, through, sets, of_opd, lands_as, shows, MutRef, ShrRef, mut_vals, shr_vals, mut_Tells, shr_Tells, plain, nothing, heard, peeks, calls_at, lasts, triple_of, Stays, stay_dropped, Goes-dropped, ends_at, says, yes, framed}
-use types.Run.{unit_lit}
-use Rattle.std.specs.Borrow.{Array, u8}
+use Rattle.humantime_uses.proofs.Kept.{unit_lit, Array, u8, Bor, lone, lends_again, comes_back, LentAgain, RattleType, type_at, Lasts, stay_ref, Goes-ref, lft_new, lft_end, last_held, kept_unless}
 use Rattle.std.specs.Prelude.{Option, IfSome, IfNone, IsSome, ◌↔◌}
-use denote.Ref.{Bor}
 use denote.Builtin.{RefOf}
-use denote.Memory.{lone}
-use denote.Lend.{lends_again, comes_back, LentAgain}
-use denote.RattleType.{RattleType}
-use denote.Signature.{type_at}
-use denote.Triple.Clauses.{Lasts}
-use denote.Triple.Walked.{stay_ref, Goes-ref}
-use types.Tokens.{lft_new, lft_end}
-use Rattle.humantime.specs.Buffers.{KeptAtNone}
-use Rattle.humantime.specs.Prelude.{IsPrintable, IsPrinted}
-use Rattle.humantime_uses.proofs.Kept.{last_held, kept_unless}
+use Rattle.humantime.specs.Prelude.{IsPrintable, IsPrinted, KeptAtNone}
 use Rattle.humantime.specs.contracts.date.print.Rfc3339Timestamp.{the_row as Self}
 use Rattle.humantime.specs.contracts.date.print.Rfc3339Timestamp.text as g
 use Rattle.humantime.proofs.date.print.Rfc3339Timestamp.text.Met as g-met
