@@ -1,6 +1,6 @@
-//! Drawn documents with one wrong value each: the mark is where it was put.
+//! Drawn documents with at most one wrong value each: what is marked is what was put as wrong.
 
-use humantime::StdDuration;
+use humantime::{StdDuration, SystemTime};
 use humantime_settings::{AsText, SettingsError, from_json, from_toml};
 use serde::Deserialize;
 use std::alloc::{AllocError, Global};
@@ -16,278 +16,257 @@ type Wait = AsText<StdDuration>;
 #[serde(recursive)]
 struct Table {
     wait: Option<Wait>,
-    #[serde(default)]
-    list: Vec<Wait>,
-    #[serde(default)]
-    grid: Vec<Vec<Wait>>,
-    #[serde(default)]
-    named: BTreeMap<String, Wait>,
+    since: Option<AsText<SystemTime>>,
+    list: Option<Vec<Wait>>,
+    grid: Option<Vec<Vec<Wait>>>,
+    named: Option<BTreeMap<String, Wait>>,
     #[serde(rename = "a.b")]
     dotted: Option<Wait>,
-    #[serde(default)]
-    a: BTreeMap<String, Wait>,
+    a: Option<BTreeMap<String, Wait>>,
     #[serde(recursive)]
     one: Option<Box<Table>>,
     #[serde(default, recursive)]
     many: Vec<Table>,
 }
 
-/// Texts in JSON and in TOML, of which one is drawn.
-type Texts = [&'static [&'static str]; 2];
+/// Names, and the texts of which each stands for one. In a text, angle brackets have a name or, behind a single quote, a key or, behind a
+/// double quote, the text of a string.
+type Parts = &'static [(&'static str, &'static [&'static str])];
 
-const START: Texts = [&["{", " {\n", "\r\n{\t"], &["", "\u{feff}", "# [\n", "\r\n"]];
-const EQUALS: Texts = [&[":", " : ", "\n:\t", ":\r\n  "], &["=", " = ", "\t= "]];
-const COMMA: Texts = [&[",", " ,\n", ",\t", "\r\n  , "], &[",", " , ", ", # '~' ]\n", ",\r\n\t"]];
-/// What follows the last item of a list.
-const LAST_COMMA: Texts = [&[""], &["", ",", " ,\n"]];
-/// What follows a value at the top.
-const END: Texts = [&[",", " ,\n", ",\t", "\r\n  , "], &["\n", "\r\n", " # ' [ { \" = '1~'\n", "\t#]\r\n", "\n\n# [wait]\n", "\n  "]];
-const BRACKETS: [Texts; 2] = [[&["[", "[ ", "[\n"], &["[", "[ ", "[ # ]\n"]], [&["]", " ]", "\r\n]"], &["]", " ]", "\n]"]]];
-const BRACES: [Texts; 2] = [[&["{", "{ ", "{\r\n\t"], &["{", "{ "]], [&["}", " }", "\n}\t"], &["}", " }"]]];
-/// Keys that are unknown, with their values.
-const SKIP: Texts = [
-    &["\"skip\":[{\"wait\":\"1~\"}, \"]\\\"\", 1.5e3, null]", "\"\\\"wait\\\"\" : \"\\\\\"", "\"skip\":{ }"],
-    &["skip = [1, ']', { wait = '1~', b = [ 2, \"[\" ] }, 1979-05-27]", "skip.wait = '1~'", "skip = \"\"\"\nwait = '1~'\n\"\"\""],
+const BOTH: Parts = &[
+    ("wait", &["<'wait><=><value>"]),
+    ("since", &["<'since><=><time>"]),
+    ("list", &["<'list><=><values>"]),
+    ("values", &["[<_>]", "[<_><value><]>", "[<_><value><,><value><]>", "[<_><value><,><value><,><value><]>"]),
+    ("grid", &["<'grid><=>[<_>]", "<'grid><=>[<_><values><]>", "<'grid><=>[<_><values><,><values><]>"]),
+    ("named", &["<'named><=>{<_><'x><=><value><,><name><=><value><_>}"]),
+    ("pairs", &["<last>", "<skip><,><wait><,><last>", "<wait><,><list><,><last>", "<skip><,><grid><,><since>", "<named><,><wait><,><last>"]),
+    ("one", &["<'one><=>{<_><pairs><_>}"]),
+    ("many", &["<'many><=>[<_>]", "<'many><=>[<_>{<_><pairs><_>}<]>", "<'many><=>[<_>{<_><pairs><_>}<,>{<_><pairs><_>}<]>"]),
+    ("value", &["<\"1s>", "<\"2h 5m>", "<\"1\ts>", "<\"\u{3000}1h\n2s >"]),
+    ("time", &["<\"2018-02-14 00:28:07>", "<\"2018-02-14T00:28:07.5Z>"]),
+    // A mark begins and ends at `^`. One that ends where it begins has only one.
+    ("wrong value", &["<wrong text>", "<wrong text>", "<wrong text>", "<no text>"]),
+    ("wrong text", &[
+        "<\"^>", "<\"^~^>", "<\"5µs ^~^>", "<\"1s 2^>", "<\"1^x^ 2s>", "<\" 2h 5^~^>", "<\"\u{3000}2h\t5^~^>", "<\"1h ^#^[ >", "<\"1s ^\\^>",
+        "<\"1s ^\"^>", "<\"1h\n2s ^é^𝄞>", "<\"1d\u{3000}2h ^𝄞^1h>", "<\"5^parsecs^ 1h>", "<\"9^µx^>", "<\"5µs ^\u{1b}^>", "<\"5^\u{10ffff}^>",
+        "<\"\u{2003}2w ^/^>", "<\"1s ^\\^u00e9>", "<\"1h ^😀^x>",
+    ]),
+    ("wrong time", &[
+        "<\"^>", "<\"2018-2^-^14 00:28:07>", "<\"2018-02^é^>", "<\"2018-02-^30^ 00:28:07>", "<\"2018-^13^-14T00:28:07.>", "<no text>",
+        "<\"2018-02-14 00:28:07^\u{1b}[\"^>", "<\"2018-02-14 00:28:07.5^+02:00^>", "<\"2018-02-14T00:28:07^😀𝄞é^>", "<\"2018-02-14 00:28:07^𝄞\t😀~^>",
+        "<\"2018-02-14 00:28:07^\u{10ffff}\\1^>", "<\"2018-02-14 00:28:07Z^\n~^>",
+    ]),
 ];
 
-/// The last key of a table, which is unknown.
-const LAST: Texts = [&["\"last\":0", "\"last\" : {}"], &["last = 0", "last = {}"]];
+const JSON: Parts = &[
+    ("document", &["<_>{<_><'wait><=><value><,><since><_>}<_>", "<_>{<_><pairs><,><'a.b><=><value><,><rest>}<_>"]),
+    ("rest", &["<a>", "<one><,><a>", "<a><,><many>", "<many><,><a><,><one>"]),
+    ("a", &["<'a><=>{<_><'b><=><value><_>}<_>"]),
+    // Keys that are unknown, with their values, also as the last of a table.
+    ("skip", &[r#""skip":[{"wait":"1~"}, "]\"", 1.5e3, null]"#, r#""\"wait\"" : "\\""#, r#""skip":{ }"#]),
+    ("last", &[r#""last"<=>0"#, r#""last"<=>{}"#]),
+    // Keys with escapes, and with what they do not end at.
+    ("name", &[r#""\"""#, r#""z\ty""#, r#""\u007a\\""#, r#""}""#]),
+    ("no text", &["^7", "^-2.5e3", "^true", "^[<_><\"1s><_>]", "^[]", "^{}"]),
+    ("_", &["", " ", "\n", "\r\n\t"]),
+    ("=", &["<_>:<_>"]),
+    (",", &["<_>,<_>"]),
+    ("]", &["<_>]"]),
+];
 
-/// Keys with escapes and what they do not end at.
-const NAMES: Texts = [&["\"\\\"\"", "\"z\\ty\"", "\"\\u007a\\\\\"", "\"}\""], &["y", "'y.z'", "\"\\u0061\\t\"", "\"]\""]];
+const TOML: Parts = &[
+    ("document", &["<start><wait><end><since><end>", "<start><lines><end><'a.b><=><value><end><rest>"]),
+    ("start", &["", "\u{feff}", "# [\n", "\r\n"]),
+    ("rest", &["<one><end><many><end><a>", "<one><end><heads><a>", "<many><end><a><head>", "<heads><a><head>", "<heads><head><a>"]),
+    ("a", &["[a]<end><'b><=><value><end>", "[ a ]<end><'b><=><value><end>", "[\"a\"]<end><'b><=><value><end>"]),
+    ("head", &["[one]<end><lines><end>", "[ one ]<end><lines><end>", "['one']<end><lines><end>"]),
+    ("heads", &["", "<item>", "<item><item>", "<item>[many.a]<end><']><=><value><end>", "<item>[ many . 'a' ]<end><']><=><value><end><item>"]),
+    ("item", &["[[many]]<end><lines><end>", "[[ 'many' ]]<end><lines><end>", "\t[[\"many\"]]<end><lines><end>"]),
+    ("lines", &[
+        "<last>", "<skip><end><wait><end><last>", "<wait><end><list><end><last>", "<skip><end><grid><end><since>", "<named><end><wait><end><last>",
+        "named.<'x><=><value><end><list><end>'named' . <'y z><=><value><end><last>",
+    ]),
+    ("named", &["<'named><=>{<_><'x><=><value><,><name><=><value><_>}", "named.<'x><=><value>", "\"named\" . <'y z><=><value>"]),
+    ("skip", &["skip = [1, ']', { wait = '1~', b = [ 2, \"[\" ] }, 1979-05-27]", "skip.wait = '1~'", "skip = \"\"\"\nwait = '1~'\n\"\"\""]),
+    ("last", &["last = 0", "last = {}"]),
+    ("name", &["y", "'y.z'", "\"\\u0061\\t\"", "\"]\""]),
+    ("no text", &[
+        "^7", "^0x1F", "^-2.5e3", "^inf", "^true", "^1979-05-27 07:32:00Z", "^07:32:00", "^[<_><\"1s><_>]", "^[]", "^{}", "^{ a = <\"1s> }",
+    ]),
+    ("_", &["", " ", "\n", " # ]\n\t"]),
+    ("=", &["=", " = ", "\t= "]),
+    (",", &[",", " , ", ", # '~' ]\n", ",\r\n\t"]),
+    ("]", &["]", " ,\n]", "<_>]"]),
+    // What follows a value outside brackets.
+    ("end", &["\n", "\r\n", " # ' [ { \" = '1~'\n", "\t#]\r\n", "\n\n# [wait]\n", "\n  "]),
+];
 
-/// Right values, those of both formats and those of TOML alone.
-const RIGHT: Texts = [&["\"1s\"", "\"2h 5m\"", "\"1\\u0020s\"", "\"1\\ts\""], &["'1s'", "'''1m'''", "\"\"\"\n1s\n2s\"\"\"", "'''\r\n1s'''"]];
+/// What is before the content of a string in TOML.
+const OPEN: [&str; 8] = ["\"", "'", "\"\"\"", "\"\"\"\n", "\"\"\"\r\n", "'''", "'''\n", "'''\r\n"];
 
-/// Wrong values, in the same order, with the offset of the mark.
-const WRONG: [&[(&str, usize)]; 2] = [
+/// The ways to write a character between double quotes, those of both formats and those of each.
+const WAYS: [Parts; 3] = [
     &[
-        ("\"~\"", 1), ("\"5µs ~\"", 6), ("\"1s 2\"", 5), ("\"1x 2s\"", 2), ("\" 2h 5~\"", 6), ("\"\u{3000}2h 5~\"", 8),
-        ("\"1h #[ \"", 4), ("\"1s\\u0020~\"", 9), ("\"1s \\\\\"", 4), ("\"1s \\\"\"", 4),
-        ("7", 0), ("-2.5e3", 0), ("true", 0), ("[ \"1s\" ]", 0), ("[]", 0), ("{}", 0),
+        ("1", &["1", r"\u0031"]), ("s", &["s", r"\u0073"]), (" ", &[" ", r"\u0020"]), ("~", &["~", r"\u007e", r"\u007E"]),
+        ("µ", &["µ", r"\u00b5"]), ("\u{3000}", &["\u{3000}", r"\u3000"]), ("\\", &[r"\\", r"\u005c"]), ("\"", &[r#"\""#, r"\u0022"]),
+        ("\t", &[r"\t", r"\u0009"]), ("\n", &[r"\n", r"\u000A"]),
     ],
     &[
-        ("'~'", 1), ("'1s 2'", 5), ("'1x 2s'", 2), ("' 2h 5~'", 6), ("'\t2h\u{3000}5~'", 8), ("'''1h #[ '''", 6), ("\"\"\"\n5 é\"\"\"", 6),
-        ("'''\r\n1s\n]'''", 8), ("0x1F", 0), ("inf", 0), ("1979-05-27 07:32:00Z", 0), ("07:32:00", 0), ("[ '1s' ]", 0), ("{ a = '1s' }", 0),
+        ("/", &["/", r"\/", r"\u002f"]), ("é", &["é", r"\u00e9"]), ("\u{1b}", &[r"\u001b"]), ("𝄞", &["𝄞", r"\uD834\uDd1e", r"\ud834\udd1E"]),
+        ("😀", &["😀", r"\ud83d\uDE00", r"\uD83D\ude00"]), ("\u{10ffff}", &["\u{10ffff}", r"\uDBFF\udfff"]),
+    ],
+    &[
+        ("2", &["2", r"\x32", r"\U00000032"]), ("é", &["é", r"\xe9", r"\u00E9"]), ("\u{1b}", &[r"\e", r"\x1B", r"\u001b"]),
+        ("𝄞", &["𝄞", r"\U0001D11E"]), ("😀", &["😀", r"\U0001f600"]), ("\u{10ffff}", &["\u{10ffff}", r"\U0010FFFF"]),
     ],
 ];
 
 /// A document that is drawn.
 #[derive(Drop)]
-pub(crate) struct Draw {
+struct Draw {
     state: u64,
     is_json: bool,
-    pub(crate) text: String,
-    /// How many values are put.
-    count: u64,
-    /// The number of the wrong one, and its mark.
-    wrong: u64,
-    at: usize,
+    text: String,
+    /// The number of the wrong value among those that are still to be put, from 1. None has the number 0.
+    wrong: usize,
+    /// Where what is wrong begins, and where it ends.
+    marks: Vec<usize>,
 }
 
-type Put = Result<(), AllocError>;
-
 impl Draw {
-    pub(crate) fn new(alloc: Global, seed: u64) -> Draw {
-        Draw { state: seed, is_json: false, text: String::new(alloc), count: 0, wrong: 0, at: 0 }
-    }
-
     /// Returns a number below another one.
-    pub(crate) fn below(&mut self, end: u64) -> u64 {
+    fn below(&mut self, end: usize) -> usize {
         self.state ^= self.state << 13;
         self.state ^= self.state >> 7;
         self.state ^= self.state << 17;
-        (self.state >> 8) % end
+        ((self.state >> 8) % end as u64) as usize
     }
 
-    /// Puts one of several texts.
-    pub(crate) fn one_of(&mut self, texts: &[&str]) -> Put {
-        let at = self.below(texts.len() as u64) as usize;
-        self.text.push_str(texts.get(at).unwrap_or(&""))
-    }
-
-    fn put(&mut self, texts: Texts) -> Put {
-        self.one_of(texts[if self.is_json { 0 } else { 1 }])
-    }
-}
-
-fn value(draw: &mut Draw) -> Put {
-    let group = if draw.is_json { 0 } else { draw.below(2) as usize };
-    draw.count += 1;
-    if draw.count != draw.wrong {
-        return draw.one_of(RIGHT[group]);
-    }
-    let at = draw.below(WRONG[group].len() as u64) as usize;
-    let (text, mark) = WRONG[group].get(at).unwrap_or(&("", 0));
-    draw.at = draw.text.len() + *mark;
-    draw.text.push_str(text)
-}
-
-/// Puts a key and what `put` puts. The key is in quotes, which can have an escape, or in TOML also in single quotes or bare.
-fn pair(draw: &mut Draw, name: &str, put: fn(&mut Draw) -> Put) -> Put {
-    let alloc = *draw.text.allocator();
-    let (first, rest) = name.split_at(1);
-    let is_bare = name.bytes().all(|byte| byte.is_ascii_lowercase());
-    let key = match draw.below(if draw.is_json { 2 } else { 5 }) {
-        0 => format!(in alloc; "\"{name}\"")?,
-        1 => format!(in alloc; "\"\\u{:04x}{rest}\"", u32::from(first.as_bytes()[0]))?,
-        2 if is_bare => format!(in alloc; "{name}")?,
-        3 if is_bare => format!(in alloc; "\t{name} ")?,
-        _ => format!(in alloc; "'{name}'")?,
-    };
-    draw.text.push_str(&key)?;
-    draw.put(EQUALS)?;
-    put(draw)
-}
-
-fn list_of(draw: &mut Draw, item: fn(&mut Draw) -> Put) -> Put {
-    draw.put(BRACKETS[0])?;
-    let count = draw.below(4);
-    for at in 0..count {
-        item(draw)?;
-        draw.put(if at + 1 < count { COMMA } else { LAST_COMMA })?;
-    }
-    draw.put(BRACKETS[1])
-}
-
-fn list(draw: &mut Draw) -> Put {
-    list_of(draw, value)
-}
-
-fn grid(draw: &mut Draw) -> Put {
-    list_of(draw, list)
-}
-
-fn one_table(draw: &mut Draw) -> Put {
-    draw.put(BRACES[0])?;
-    pairs(draw, COMMA)?;
-    draw.put(BRACES[1])
-}
-
-fn named(draw: &mut Draw) -> Put {
-    draw.put(BRACES[0])?;
-    pair(draw, "x", value)?;
-    draw.put(COMMA)?;
-    draw.put(NAMES)?;
-    draw.put(EQUALS)?;
-    value(draw)?;
-    draw.put(BRACES[1])
-}
-
-const ITEMS: [(&str, fn(&mut Draw) -> Put); 4] = [("wait", value), ("list", list), ("grid", grid), ("named", named)];
-
-/// Puts the keys of a table with their values, and an end after each but the last one.
-fn pairs(draw: &mut Draw, end: Texts) -> Put {
-    if draw.below(2) == 0 {
-        draw.put(SKIP)?;
-        draw.put(end)?;
-    }
-    let has_dots = !draw.is_json && draw.below(2) == 0;
-    for (name, item) in &ITEMS[..if has_dots { 3 } else { 4 }] {
-        if draw.below(2) == 0 {
-            pair(draw, name, *item)?;
-            draw.put(end)?;
-        }
-    }
-    for name in if has_dots { &["x", "y z"][..] } else { &[] } {
-        draw.one_of(&["named.", "\"named\" . ", "'named'."])?;
-        pair(draw, name, value)?;
-        draw.put(end)?;
-    }
-    draw.put(LAST)
-}
-
-fn document(draw: &mut Draw) -> Put {
-    draw.put(START)?;
-    pairs(draw, END)?;
-    draw.put(END)?;
-    pair(draw, "a.b", value)?;
-    draw.put(END)?;
-    let (is_inline, are_inline) = (draw.below(2) == 0, draw.is_json || draw.below(2) == 0);
-    if is_inline {
-        pair(draw, "one", one_table)?;
-        draw.put(END)?;
-    }
-    if are_inline {
-        pair(draw, "many", |draw| list_of(draw, one_table))?;
-        draw.put(END)?;
-    }
-    if !draw.is_json {
-        return headers(draw, is_inline, are_inline);
-    }
-    draw.one_of(&["\"a\":{", "\"a\" : {\n"])?;
-    pair(draw, "b", value)?;
-    draw.one_of(&["}}", " }\n}\t", "} }\r\n"])
-}
-
-/// Puts a header, and then a value with this key, or the keys of a table.
-fn section(draw: &mut Draw, headers: &[&str], name: Option<&str>) -> Put {
-    draw.one_of(headers)?;
-    draw.put(END)?;
-    match name {
-        Some(name) => pair(draw, name, value)?,
-        None => pairs(draw, END)?,
-    }
-    draw.put(END)
-}
-
-/// Puts the tables that have headers.
-fn headers(draw: &mut Draw, is_inline: bool, are_inline: bool) -> Put {
-    for _ in 0..if are_inline { 0 } else { draw.below(3) } {
-        section(draw, &["[[many]]", "[[ 'many' ]]", "\t[[\"many\"]]"], None)?;
-        if draw.below(2) == 0 {
-            section(draw, &["[many.a]", "[ many . 'a' ]"], Some("]"))?;
-        }
-    }
-    section(draw, &["[a]", "[ a ]", "[\"a\"]"], Some("b"))?;
-    if !is_inline {
-        section(draw, &["[one]", "[ one ]", "['one']"], None)?;
-    }
-    Ok(())
-}
-
-/// Draws a document, and returns it with its error.
-fn drawn(alloc: Global, is_json: bool, seed: u64, wrong: u64) -> Result<(Draw, Option<SettingsError>), AllocError> {
-    let mut draw = Draw::new(alloc, seed * 0x9E37_79B9);
-    (draw.is_json, draw.wrong) = (is_json, wrong);
-    document(&mut draw)?;
-    let error = if is_json { from_json::<Table>(alloc, &draw.text).err() } else { from_toml::<Table>(alloc, &draw.text).err() };
-    Ok((draw, error))
-}
-
-/// Asserts that the mark of each document is where its wrong value was put, and that it has no error without one.
-fn assert_marked(rt: &(impl Abort + AllocGlobal), is_json: bool, seeds: RangeInclusive<u64>) -> Result<(), Fail> {
-    for seed in seeds {
-        let (right, error) = drawn(rt.alloc(), is_json, seed, 0)?;
-        assert!(rt; error.is_none(), "{error:?} {}", right.text);
-        for wrong in 1..=right.count {
-            // Other numbers are drawn after a wrong value, so the documents differ behind it.
-            let (draw, error) = drawn(rt.alloc(), is_json, seed, wrong)?;
-            let Some(SettingsError::At(fault)) = error else {
-                panic!(rt; "{error:?} {}", draw.text);
+    /// Puts one of the texts of a name.
+    fn put(&mut self, name: &'static str) -> Result<(), AllocError> {
+        let mut left = Vec::new(*self.text.allocator());
+        left.push(self.text_of(name))?;
+        while let Some(text) = left.pop() {
+            let (before, named) = text.split_once('<').unwrap_or((text, ""));
+            if before.starts_with('^') {
+                self.marks.push(self.text.len())?;
+            }
+            self.text.push_str(before.trim_start_matches('^'))?;
+            let Some((name, after)) = named.split_once('>') else {
+                continue;
             };
-            assert_eq!(rt; fault.at, draw.at, "{}", draw.text);
+            left.push(after)?;
+            match name.split_at(1) {
+                ("'", key) => self.put_key(key)?,
+                ("\"", text) => self.put_string(text)?,
+                _ => left.push(self.text_of(name))?,
+            }
         }
+        Ok(())
+    }
+
+    /// Returns one of the texts of a name, or of that of a wrong value in the place of the one that is to be wrong.
+    fn text_of(&mut self, name: &'static str) -> &'static str {
+        let is_value = matches!(name, "value" | "time");
+        self.wrong = self.wrong.wrapping_sub(is_value as usize);
+        let name = match (is_value && self.wrong == 0, name) {
+            (true, "value") => "wrong value",
+            (true, _) => "wrong time",
+            _ => name,
+        };
+        self.one_of(if self.is_json { JSON } else { TOML }, BOTH, name)
+    }
+
+    /// Returns one of the texts that a name has in one of two tables, or the name.
+    fn one_of<'a>(&mut self, parts: Parts, others: Parts, name: &'a str) -> &'a str {
+        let Some((_, texts)) = parts.iter().chain(others).find(|entry| entry.0 == name) else {
+            return name;
+        };
+        texts[self.below(texts.len())]
+    }
+
+    /// Puts a key in quotes, which can have an escape, or in TOML also in single quotes or bare.
+    fn put_key(&mut self, key: &str) -> Result<(), AllocError> {
+        let alloc = *self.text.allocator();
+        let is_bare = key.bytes().all(|byte| byte.is_ascii_lowercase());
+        let key = match self.below(if self.is_json { 2 } else { 5 }) {
+            0 => format!(in alloc; "\"{key}\"")?,
+            1 => format!(in alloc; "\"\\u{:04x}{}\"", key.as_bytes()[0], &key[1..])?,
+            2 if is_bare => format!(in alloc; "{key}")?,
+            3 if is_bare => format!(in alloc; "\t{key} ")?,
+            _ => format!(in alloc; "'{key}'")?,
+        };
+        self.text.push_str(&key)
+    }
+
+    /// Puts a string with this text, each of whose characters is written in one of its ways.
+    fn put_string(&mut self, text: &str) -> Result<(), AllocError> {
+        let at = self.below(OPEN.len());
+        let open = if self.is_json { "\"" } else { OPEN[at] };
+        let (is_long, is_literal) = (open.len() > 1, open.starts_with('\''));
+        self.text.push_str(open)?;
+        for (at, c) in text.char_indices() {
+            if is_long && !is_literal {
+                self.put_blank(c)?;
+            }
+            let is_plain = is_literal || c == '\n' && is_long && self.below(2) == 0;
+            match c {
+                '^' => self.marks.push(self.text.len())?,
+                '\n' if is_plain && !is_long => self.text.push(' ')?,
+                '\u{1b}' if is_plain => self.text.push('?')?,
+                _ if is_plain => self.text.push(c)?,
+                _ => {
+                    let plain = &text[at..at + c.len_utf8()];
+                    let way = self.one_of(WAYS[if self.is_json { 1 } else { 2 }], WAYS[0], plain);
+                    self.text.push_str(way)?;
+                }
+            }
+        }
+        self.text.push_str(open.trim_end())
+    }
+
+    /// Puts a backslash at the end of a line, or nothing. White space behind it would be no text, and a mark begins behind it.
+    fn put_blank(&mut self, c: char) -> Result<(), AllocError> {
+        let is_marked = self.marks.last() == Some(&self.text.len()) || c == '^' && !self.marks.is_empty();
+        if is_marked || matches!(c, ' ' | '\t' | '\n') || self.below(6) > 0 {
+            return Ok(());
+        }
+        let blanks = ["\\\n", "\\\r\n  ", "\\ \t\n\n \t\r\n"];
+        let at = self.below(blanks.len());
+        self.text.push_str(blanks[at])
+    }
+}
+
+/// Draws documents, and asserts that each has its mark, or no error without a wrong value.
+fn assert_marked(rt: &(impl Abort + AllocGlobal), is_json: bool, seeds: RangeInclusive<u64>) -> Result<(), Fail> {
+    let alloc = rt.alloc();
+    for seed in seeds {
+        let mut draw = Draw { state: seed * 0x9E37_79B9, is_json, text: String::new(alloc), wrong: 0, marks: Vec::new(alloc) };
+        draw.wrong = draw.below(6);
+        draw.put("document")?;
+        let text = draw.text.as_str();
+        let error = if is_json { from_json::<Table>(alloc, text).err() } else { from_toml::<Table>(alloc, text).err() };
+        let (Some(start), Some(end)) = (draw.marks.first(), draw.marks.last()) else {
+            assert!(rt; error.is_none(), "{error:?} {text}");
+            continue;
+        };
+        let Some(SettingsError::At(fault)) = error else {
+            panic!(rt; "{error:?} {text}");
+        };
+        // A mark ends with its line.
+        let marked = text[*start..*end].lines().next().unwrap_or("");
+        assert_eq!(rt; (fault.at, fault.marked.as_str()), (*start, marked), "{text}");
     }
     Ok(())
 }
 
 #[test]
-fn documents_1_to_150_in_json(rt: HostRuntime) -> Result<(), Fail> {
-    assert_marked(&rt, true, 1..=150)
+fn drawn_documents_in_json(rt: HostRuntime) -> Result<(), Fail> {
+    assert_marked(&rt, true, 1..=400)
 }
 
 #[test]
-fn documents_1_to_50_in_toml(rt: HostRuntime) -> Result<(), Fail> {
-    assert_marked(&rt, false, 1..=50)
-}
-
-#[test]
-fn documents_51_to_100_in_toml(rt: HostRuntime) -> Result<(), Fail> {
-    assert_marked(&rt, false, 51..=100)
-}
-
-#[test]
-fn documents_101_to_150_in_toml(rt: HostRuntime) -> Result<(), Fail> {
-    assert_marked(&rt, false, 101..=150)
+fn drawn_documents_in_toml(rt: HostRuntime) -> Result<(), Fail> {
+    assert_marked(&rt, false, 1..=300)
 }

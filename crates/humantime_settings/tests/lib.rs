@@ -2,7 +2,6 @@
 #![tactic(auto)]
 
 mod drawn;
-mod drawn_strings;
 mod faults;
 mod refused;
 pub(crate) mod support;
