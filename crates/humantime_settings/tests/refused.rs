@@ -1,99 +1,71 @@
-//! A call has its answer or reports that memory was refused, whichever allocation fails, and then has its answer.
+//! Each call has its answer, or reports that memory was refused, whichever allocation fails, and then has its answer.
 
-use crate::support::moment;
 use crate::values::{Lists, VALUES_TOML, Values};
+use humantime::SystemTime;
 use humantime_settings::{AsText, SettingsError, from_json, from_toml, to_json, to_toml};
 use std::alloc::Global;
 use std::process::Abort;
 
 type Answer = Result<String, SettingsError>;
 
-/// Returns the text of the error of a call.
-fn told<T: Drop>(alloc: Global, called: Result<T, SettingsError>) -> Answer {
-    match called {
-        Ok(_) => Ok(String::from_str(alloc, "no error")?),
-        Err(SettingsError::OutOfMemory) => Err(SettingsError::OutOfMemory),
-        Err(error) => Ok(error.to_string(alloc)?),
+fn json_to_toml(alloc: Global, text: &str) -> Answer {
+    to_toml(alloc, &from_json::<Values>(alloc, text)?)
+}
+
+fn toml_to_json(alloc: Global, text: &str) -> Answer {
+    to_json(alloc, &from_toml::<Lists>(alloc, text)?)
+}
+
+fn before_1970(alloc: Global, _text: &str) -> Answer {
+    to_json(alloc, &AsText(SystemTime::from_parts(-1, 0)))
+}
+
+/// Returns what is written, or the text of an error.
+fn told(alloc: Global, answer: Answer) -> Answer {
+    match answer {
+        Err(error) if error != SettingsError::OutOfMemory => Ok(error.to_string(alloc)?),
+        answer => answer,
     }
 }
 
-/// Asserts that two calls have this answer, except that one of them may report that memory was refused.
-fn assert_answer(rt: &(impl Abort + AllocGlobal), call: impl Fn(Global) -> Answer, wanted: &str) {
-    let mut is_refused = false;
-    for _ in 0..2 {
-        match call(rt.alloc()) {
-            Ok(text) => assert_eq!(rt; text.as_str(), wanted),
-            Err(SettingsError::OutOfMemory) => {
-                assert!(rt; !is_refused);
-                is_refused = true;
-            }
-            Err(error) => panic!(rt; "{error:?}"),
+/// Asserts that each call has its answer. The allocations of all together are at most as many as one of them can be refused.
+fn assert_answers(rt: &(impl Abort + AllocGlobal), calls: &[(fn(Global, &str) -> Answer, &str, &str)]) {
+    let (alloc, mut is_refused) = (rt.alloc(), false);
+    for (call, text, wanted) in calls {
+        let mut answer = told(alloc, call(alloc, text));
+        if !is_refused && answer == Err(SettingsError::OutOfMemory) {
+            is_refused = true;
+            answer = told(alloc, call(alloc, text));
         }
+        assert!(rt; answer.as_ref().is_ok_and(|answer| answer.as_str() == *wanted), "{answer:?}");
     }
 }
 
-/// Asserts that lists in TOML have this error.
-fn assert_error(rt: &(impl Abort + AllocGlobal), text: &str, wanted: &str) {
-    assert_answer(rt, |alloc| told(alloc, from_toml::<Lists>(alloc, text)), wanted);
+#[test]
+fn json(rt: HostRuntime) {
+    let values = r#"{"wait":"2\u0068 37m","since":"2018-02-14\u002000:28:07","every":"36h","until":"2018-02-14T00:28:07.5Z","pause":"12µs"}"#;
+    let moons = "{\"since\":\"2018-02-14T00:28:07Z\",\n\"wait\":\"3\\u0020moons\"}";
+    let wanted = "line 2, column 16: unknown time unit \"moons\", supported units: ns, us/µs, ms, sec, min, hours, days, weeks, months, years (and few variations)\n\"wait\":\"3\\u0020moons\"}\n               ^^^^^";
+    let before = "time is not from 1970 to 9999";
+    assert_answers(&rt, &[(json_to_toml, values, VALUES_TOML), (json_to_toml, moons, wanted), (before_1970, "", before)]);
 }
 
 #[test]
-fn from_json_to_toml(rt: HostRuntime) {
-    let text = r#"{"wait":"2\u0068 37m","since":"2018-02-14\u002000:28:07","every":"36h","until":"2018-02-14T00:28:07.5Z","pause":"12µs"}"#;
-    assert_answer(&rt, |alloc| to_toml(alloc, &from_json::<Values>(alloc, text)?), VALUES_TOML);
-}
-
-#[test]
-fn from_toml_to_json(rt: HostRuntime) {
+fn toml(rt: HostRuntime) {
     let text = "waits = ['1.5min']\npauses = [\"2\\u0068\"]\n[ends]\nlast = '1970-01-01 00:00:01'\n";
-    let written = "{\n  \"waits\": [\n    \"1m 30s\"\n  ],\n  \"ends\": {\n    \"last\": \"1970-01-01T00:00:01Z\"\n  },\n  \"pauses\": [\n    \"2h\"\n  ]\n}";
-    assert_answer(&rt, |alloc| to_json(alloc, &from_toml::<Lists>(alloc, text)?), written);
+    let written = "{\n  \"waits\": [\n    \"1m 30s\"\n  ],\n  \"ends\": {\n    \"last\": \"1970-01-01T00:00:01Z\"\n  },\n  \"pauses\": [\n    \"2h\"\n  ],\n  \"runs\": [],\n  \"limits\": {}\n}";
+    let missing = "line 1, column 1: missing field `ends`\nwaits = []\n^";
+    assert_answers(&rt, &[(toml_to_json, text, written), (toml_to_json, "waits = []\n", missing)]);
 }
 
 #[test]
-fn error_in_json(rt: HostRuntime) {
-    let text = "{\"since\":\"2018-02-14T00:28:07Z\",\n\"wait\":\"3 moons\"}";
-    let wanted = "line 2, column 11: unknown time unit \"moons\", supported units: ns, us/µs, ms, sec, min, hours, days, weeks, months, years (and few variations)\n\"wait\":\"3 moons\"}\n          ^^^^^";
-    assert_answer(&rt, |alloc| told(alloc, from_json::<Values>(alloc, text)), wanted);
+fn text_in_toml(rt: HostRuntime) {
+    let wanted = "line 1, column 27: unknown time unit \"moons\", supported units: ns, us/µs, ms, sec, min, hours, days, weeks, months, years (and few variations)\nwaits = ['1s', \"\\u0032h 3 moons\"]\n                          ^^^^^";
+    assert_answers(&rt, &[(toml_to_json, "waits = ['1s', \"\\u0032h 3 moons\"]\n[ends]\n", wanted)]);
 }
 
 #[test]
-fn error_in_toml(rt: HostRuntime) {
-    let text = "every = \"36\\u0068\"\nsince = '2018-02-14T00:28:07Z'\nwait = '3 moons'\npause = '1s'\nuntil = '2018-02-14 00:28:07'\n";
-    let wanted = "line 3, column 11: unknown time unit \"moons\", supported units: ns, us/µs, ms, sec, min, hours, days, weeks, months, years (and few variations)\nwait = '3 moons'\n          ^^^^^";
-    assert_answer(&rt, |alloc| told(alloc, from_toml::<Values>(alloc, text)), wanted);
-}
-
-#[test]
-fn error_behind_an_escape_in_json(rt: HostRuntime) {
-    let wanted = "line 1, column 19: invalid character at 4\n{\"wait\":\"1\\u0068 2~\"}\n                  ^";
-    assert_answer(&rt, |alloc| told(alloc, from_json::<Values>(alloc, "{\"wait\":\"1\\u0068 2~\"}")), wanted);
-}
-
-#[test]
-fn error_behind_an_escape_in_toml(rt: HostRuntime) {
-    let wanted = "line 1, column 26: invalid character at 4\nwaits = ['1s', \"\\u0032h 3~\"]\n                         ^";
-    assert_error(&rt, "waits = ['1s', \"\\u0032h 3~\"]\n[ends]\n", wanted);
-}
-
-#[test]
-fn error_of_keys(rt: HostRuntime) {
-    assert_error(&rt, "[waits]\n[ends]\n", "line 1, column 1: invalid type: map, expected a sequence\n[waits]\n^");
-}
-
-#[test]
-fn error_of_a_type(rt: HostRuntime) {
+fn type_in_toml(rt: HostRuntime) {
     let wanted = "line 1, column 16: expected a duration in quotes\nwaits = ['1s', 2]\n               ^";
-    assert_error(&rt, "waits = ['1s', 2]\n[ends]\n", wanted);
-}
-
-#[test]
-fn missing_key(rt: HostRuntime) {
-    assert_error(&rt, "waits = []\n", "line 1, column 1: missing field `ends`\nwaits = []\n^");
-}
-
-#[test]
-fn no_text(rt: HostRuntime) {
-    let before = AsText(moment(&rt, -1, 0));
-    assert_answer(&rt, |alloc| told(alloc, to_json(alloc, &before)), "time is not from 1970 to 9999");
+    assert_answers(&rt, &[(toml_to_json, "waits = ['1s', 2]\n[ends]\n", wanted)]);
 }

@@ -1,6 +1,6 @@
 //! Faults in the keys of a TOML document, and in tables that keys make.
 
-use crate::support::{Case, assert_error, assert_errors};
+use crate::support::{Case, assert_errors};
 use humantime::StdDuration;
 use humantime_settings::{AsText, SettingsError, from_toml};
 use serde::Deserialize;
@@ -39,30 +39,24 @@ enum Either {
 #[derive(Debug, Drop, Deserialize)]
 #[serde(deny_unknown_fields)]
 struct Whole {
-    #[serde(default)]
-    counts: BTreeMap<Wait, u32>,
-    #[serde(default)]
-    waits: BTreeMap<Wait, Wait>,
-    #[serde(default)]
-    texts: BTreeMap<String, Wait>,
+    counts: Option<BTreeMap<Wait, u32>>,
+    waits: Option<BTreeMap<Wait, Wait>>,
+    texts: Option<BTreeMap<String, Wait>>,
     part: Option<Part>,
-    #[serde(default)]
-    outers: Vec<Outer>,
+    outers: Option<Vec<Outer>>,
     mode: Option<Mode>,
-    #[serde(default)]
-    modes: Vec<Mode>,
+    modes: Option<Vec<Mode>>,
     wait: Option<Wait>,
     pair: Option<(u32, u32)>,
     either: Option<Either>,
-    #[serde(default)]
-    eithers: Vec<Either>,
+    eithers: Option<Vec<Either>>,
 }
 
 fn read(alloc: Global, text: &str) -> Option<SettingsError> {
     from_toml::<Whole>(alloc, text).err()
 }
 
-const KEYS: &[Case] = &[
+const KEYS: &[Case<'static>] = &[
     // The key of a map is marked where the fault is in it: in quotes, bare, behind a dot, and as the key of a header.
     ("[counts]\n'2s' = 1\n'1s ~' = 1\n", 3, 5, "~", "expected number at 3"),
     ("counts = { 10 = 1 }", 1, 14, "", "time unit needed, for example 10sec or 10ms"),
@@ -135,7 +129,7 @@ fn keys_of_over_80_bytes(rt: HostRuntime) -> Result<(), Fail> {
         ] {
             let text = format!(in alloc; "[texts]\n{lines}")?.replace(alloc, "K", &key)?;
             let column = key.chars().count() + column;
-            assert_error(&rt, read, &text, (line, column, marked, message))?;
+            assert_errors(&rt, read, "", &[(text.as_str(), line, column, marked, message)])?;
         }
     }
     Ok(())
