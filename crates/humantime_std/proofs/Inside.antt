@@ -1,36 +1,67 @@
--- The range of an error lies in the text, between characters.
-use Rattle.std.proofs.Common.{◌≡◌, ℕ, zero, suc, ◌+◌, ◌-◌, ◌<◌, ◌≤◌, List, [], ◌∷◌, length, get_or, drop, inl, inr, add-one, lit<, arith, rules}
-use Rattle.std.specs.Prelude.{true, false, ◌==◌}
+-- The bytes of an error: numbers of two digits, what fits a layout, and that their range lies in the text, between characters.
+use Rattle.std.proofs.Common.{◌≡◌, ℕ, zero, suc, ◌+◌, ◌-◌, ◌*◌, ◌<◌, ◌≤◌, Some, List, [], ◌∷◌, length, get_or, drop, inl, inr, refl, add-one, lit<, arith}
+use Rattle.std.specs.Prelude.{true, Bool, ◌==◌, slice_index}
 use Rattle.std.specs.Char.{is_ascii_digit}
 use Rattle.std.specs.List.{common_prefix_len, prefix_len}
 use Rattle.std.specs.Str.{IsUtf8, IsCharBoundary}
-use Rattle.std.proofs.lemmas.Bool.{cases_lt, cases_Bool}
+use Rattle.std.proofs.lemmas.Bool.{and_parts, cases_lt, cases_Bool}
 use Rattle.std.proofs.lemmas.Bool.Decides.{nat_tests}
-use Rattle.std.proofs.lemmas.List.{get_or-drop, get_or_past, length-drop}
-use Rattle.std.proofs.lemmas.List.Sums.{common_prefix_len-le, prefix_len-le-length, prefix_len_passes, prefix_len_stops}
+use Rattle.std.proofs.lemmas.Grind.{common_steps}
+use Rattle.std.proofs.lemmas.List.{drop_all, get_or-drop, get_or_past, length-drop}
+use Rattle.std.proofs.lemmas.List.Sums.{common_prefix_len-drop_no, common_prefix_len-drop_yes, common_prefix_len-le, prefix_len-le-length, prefix_len_passes, prefix_len_stops}
 use Rattle.std.proofs.lemmas.Str.{IsCharBoundary-start, IsCharBoundary-end, IsCharBoundary-after_ascii}
 use Rattle.humantime.specs.declared.date.error.TimestampError.{TimestampError}
 use Rattle.humantime.specs.declared.date.error.TimestampError.TheVariants.{OutOfRange, InvalidDigit, InvalidFormat}
-use Rattle.humantime_std.specs.Located.{IsRangeIn, char_end, error_range, fit_len, fits, fraction_end, is_continuation, timestamp_len, range_behind, strict_layout, weak_layout, wrong_field, zone_len}
+use Rattle.humantime.specs.Timestamps.{first_failed, has_digits, has_two, number_between, strict_checks, weak_checks}
+use Rattle.humantime.proofs.TimestampParts.{has_two_from_test, number_of_two, number_of_four}
+use Rattle.humantime_std.specs.Located.{IsRangeIn, char_end, error_range, fit_len, fits, fraction_end, is_continuation, timestamp_len, range_behind, wrong_field, zone_len}
+
+-- ---- Numbers
+
+-- Two digits are bytes from 48 to 57, and represent a number below 100.
+pub number_of_pair : (b : List ℕ) (at : ℕ) → at + 2 ≤ length b → has_two b at ≡ true
+    → (48 ≤ slice_index b at) × (slice_index b at ≤ 57) × (48 ≤ slice_index b (at + 1)) × (slice_index b (at + 1) ≤ 57)
+    × (number_between b at (at + 2) ≡ (slice_index b at - 48) * 10 + (slice_index b (at + 1) - 48))
+number_of_pair b at long digits =
+    let bytes = has_two_from_test b at digits in
+    (bytes.0.0, bytes.0.1, bytes.1.0, bytes.1.1, number_of_two b at long digits)
+
+-- The year is that of two pairs.
+pub year_of_pairs : (b : List ℕ) → 19 ≤ length b → has_two b 0 ≡ true → has_two b 2 ≡ true → number_between b 0 4 ≡ number_between b 0 2 * 100 + number_between b 2 4
+year_of_pairs b long century decade =
+    omega (arith, number_of_four b (omega (arith, long)) century decade, number_of_two b 0 (omega (arith, long)) century, number_of_two b 2 (omega (arith, long)) decade)
+
+-- The numbers of the fields.
+pub ruleset fields = (common_steps, and_parts, year_of_pairs)
+
+-- A number is out of range only in a text that has its digits.
+pub weak_digits : (b : List ℕ) → first_failed (weak_checks b) ≡ Some OutOfRange → has_digits b ≡ true
+weak_digits b found = grind arith
+
+pub strict_digits : (b : List ℕ) → first_failed (strict_checks b) ≡ Some OutOfRange → has_digits b ≡ true
+strict_digits b found = grind arith
+
+-- ---- What fits a layout
+
+tied_to_none : (e : ℕ → ℕ → Bool) (xs : List ℕ) → common_prefix_len e xs [] ≡ 0
+tied_to_none e [] = refl
+tied_to_none e (x ∷ xs) = refl
+
+-- At the end of one of the two lists, no more elements are tied.
+pub no_more_tied : (e : ℕ → ℕ → Bool) (xs ys : List ℕ) (i : ℕ) → length ys ≤ i → common_prefix_len e (drop i xs) (drop i ys) ≡ 0
+no_more_tied e xs ys i past = rw (drop_all i ys past) (tied_to_none e (drop i xs))
+
+-- The steps of the loop that counts what fits.
+pub ruleset fit_steps = (common_steps, no_more_tied, common_prefix_len-drop_no, common_prefix_len-drop_yes)
+
+-- ---- Ranges
 
 -- The end of a character is a boundary.
 end_of_char : (b : List ℕ) (at : ℕ) → at ≤ length b → IsCharBoundary b (char_end b at) × (at ≤ char_end b at)
 unfolding char_end
 end_of_char b at inside =
-    let rest = drop (at + 1) b in
-    let n : ℕ = prefix_len is_continuation rest in
-    let size : length rest ≡ length b - (at + 1) = length-drop (at + 1) b in
-    let few = prefix_len-le-length is_continuation rest in
-    elim (cases_lt (at + 1 + n) (length b)) [
-      | inl some ↦
-          let same : char_end b at ≡ at + 1 + n = omega arith in
-          let stops : is_continuation (get_or rest n 0) ≡ false = prefix_len_stops is_continuation rest 0 (omega (arith, size, some)) in
-          let other : is_continuation (get_or b (at + 1 + n) 0) ≡ false = rw get_or-drop at stops in
-          rw same ((omega arith, λ _ high. grind (arith, nat_tests)), omega arith)
-      | inr none ↦
-          let same : char_end b at ≡ length b = omega arith in
-          rw same (IsCharBoundary-end b, inside)
-    ]
+    let n : ℕ = prefix_len is_continuation (drop (at + 1) b) in
+    grind (arith, nat_tests, (length-drop (at + 1) b), (prefix_len-le-length is_continuation (drop (at + 1) b)), (prefix_len_stops is_continuation (drop (at + 1) b) 0), (get_or-drop (at + 1) b n 0), (IsCharBoundary-end b))
 
 -- A place with an ASCII byte before it is a boundary.
 after_ascii : (b : List ℕ) (k : ℕ) → IsUtf8 b → k ≤ length b → (0 < k → get_or b (k - 1) 0 < 128) → IsCharBoundary b k
@@ -40,7 +71,7 @@ after_ascii b (suc k) utf8 inside ascii =
     rw add-one at (IsCharBoundary-after_ascii b k utf8 (omega arith) (rw before at (ascii (omega arith))))
 
 -- The bytes that fit a layout of ASCII are ASCII.
-abbrev AllAscii : List ℕ → Type 0
+abbrev pub AllAscii : List ℕ → Type 0
 AllAscii [] = Unit {0}
 AllAscii (p ∷ ps) = (p < 128) × AllAscii ps
 
@@ -72,33 +103,19 @@ timestamp_inside : (b : List ℕ) → IsUtf8 b → 19 ≤ length b → get_or b 
 timestamp_inside b utf8 long seconds =
     let from : ℕ = fraction_end b in
     let n : ℕ = zone_len (drop from b) in
-    let fraction = fraction_ascii b long seconds in
-    let zone = zone_ascii (drop from b) in
-    let size : length (drop from b) ≡ length b - from = length-drop from b in
-    let inside : from + n ≤ length b = omega (arith, fraction.1, zone.0, size) in
-    let ascii : 0 < from + n → get_or b (from + n - 1) 0 < 128 = λ _. elim (cases_lt 0 n) [
-      | inl some ↦
-          let last : get_or b (from + (n - 1)) 0 < 128 = rw get_or-drop at (zone.1 some) in
-          let same : from + n - 1 ≡ from + (n - 1) = omega arith in
-          rw same last
-      | inr none ↦
-          let same : from + n - 1 ≡ from - 1 = omega arith in
-          rw same fraction.2
-    ] in
-    record { order = inside; at_start = after_ascii b (from + n) utf8 inside ascii; at_end = IsCharBoundary-end b }
+    let some : 0 < n → from + n - 1 ≡ from + (n - 1) = λ more. omega arith in
+    let none : n ≡ 0 → from + n - 1 ≡ from - 1 = λ no. omega arith in
+    grind (arith, (fraction_ascii b long seconds), (zone_ascii (drop from b)), (length-drop from b), (get_or-drop from b (n - 1) 0), (IsCharBoundary-end b), (after_ascii b (from + n) utf8), (some), (none))
 
 field_few : (b : List ℕ) → ((wrong_field b).0 ≤ (wrong_field b).1) × ((wrong_field b).1 ≤ 19)
 unfolding wrong_field
 field_few b = grind arith
 
 field_inside : (b : List ℕ) → IsUtf8 b → 19 ≤ length b → ((k : ℕ) → k < 19 → get_or b k 0 < 128) → IsRangeIn b (wrong_field b).0 (wrong_field b).1
-field_inside b utf8 long ascii =
-    let few = field_few b in
-    let at : (k : ℕ) → k ≤ 19 → IsCharBoundary b k = λ k few. after_ascii b k utf8 (omega (arith, long)) (λ some. ascii (k - 1) (omega arith)) in
-    record { order = few.0; at_start = at _ (omega arith); at_end = at _ few.1 }
+field_inside b utf8 long ascii = grind (arith, (field_few b), (after_ascii b (wrong_field b).0 utf8), (after_ascii b (wrong_field b).1 utf8), (ascii ((wrong_field b).0 - 1)), (ascii ((wrong_field b).1 - 1)))
 
 -- A range of an error is in the text.
-range_inside : (layout b : List ℕ) (e : TimestampError) → AllAscii layout → IsUtf8 b → IsRangeIn b (error_range layout b e).0 (error_range layout b e).1
+pub range_inside : (layout b : List ℕ) (e : TimestampError) → AllAscii layout → IsUtf8 b → IsRangeIn b (error_range layout b e).0 (error_range layout b e).1
 unfolding fit_len
 range_inside layout b e places utf8 =
     let n : ℕ = common_prefix_len fits layout b in
@@ -118,12 +135,6 @@ range_inside layout b e places utf8 =
           let end = end_of_char b n within in
           rw some (record { order = end.1; at_start = after_ascii b n utf8 within (λ more. ascii (n - 1) (omega arith)); at_end = end.0 })
     ]
-
-pub weak_inside : (b : List ℕ) (e : TimestampError) → IsUtf8 b → IsRangeIn b (error_range weak_layout b e).0 (error_range weak_layout b e).1
-weak_inside b e utf8 = range_inside weak_layout b e (search rules) utf8
-
-pub strict_inside : (b : List ℕ) (e : TimestampError) → IsUtf8 b → IsRangeIn b (error_range strict_layout b e).0 (error_range strict_layout b e).1
-strict_inside b e utf8 = range_inside strict_layout b e (search rules) utf8
 
 -- ---- Durations
 

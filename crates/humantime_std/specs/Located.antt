@@ -1,5 +1,5 @@
 -- The bytes that are wrong in a text that is not a timestamp or a duration. A text is its list of bytes.
-use Rattle.std.specs.Prelude.{◌≡◌, ◌≤◌, chars, ◌+◌, ◌==◌, ◌||◌, nat_eq, nat_le, min, if◌then◌else◌, ℕ, Bool, List, [], ◌∷◌, length, drop, slice_index, codes, Option, option_map}
+use Rattle.std.specs.Prelude.{◌≡◌, ◌≤◌, chars, ◌+◌, ◌++◌, ◌==◌, ◌||◌, nat_eq, nat_le, min, if◌then◌else◌, ℕ, zero, suc, Bool, List, [], ◌∷◌, length, drop, slice_index, codes, Option, option_map, ⊤}
 use Rattle.std.specs.Char.{is_ascii_digit}
 use Rattle.std.specs.Int.{is_in_range}
 use Rattle.std.specs.List.{common_prefix_len, prefix_len, starts_with}
@@ -8,10 +8,10 @@ use Rattle.std.specs.Str.{IsCharBoundary, byte}
 use Rattle.humantime.specs.declared.date.error.TimestampError.{TimestampError}
 use Rattle.humantime.specs.declared.date.error.TimestampError.TheVariants.{OutOfRange}
 use Rattle.humantime.specs.Calendar.{is_valid}
-use Rattle.humantime.specs.Durations.{too_long}
-use Rattle.humantime.specs.Characters.{byte_length, offset_of}
+use Rattle.humantime.specs.Durations.{SpelledSpan, WithinLimits, too_long}
+use Rattle.humantime.specs.Characters.{byte_length, drop_while, is_whitespace, offset_of}
 use Rattle.humantime.specs.DurationErrors as durations
-use Rattle.humantime.specs.DurationErrors.{HasFault, after_word, span_of}
+use Rattle.humantime.specs.DurationErrors.{BeginsSpan, HasFault, after_word, span_of}
 use Rattle.humantime.specs.TimestampResults.{strict_answer, weak_answer}
 use Rattle.humantime.specs.Timestamps.{date_time_of}
 use Rattle.humantime_std.specs.declared.located.Located.{Located}
@@ -144,3 +144,39 @@ IsFaultRange text (durations.NumberExpected at) start end = (start ≡ at) × (e
 IsFaultRange text (durations.UnknownUnit from to unit value) start end = (start ≡ from) × (end ≡ to)
 IsFaultRange text durations.NumberOverflow start end = OverflowsAt (chars text) start end
 IsFaultRange text durations.Empty start end = (start ≡ 0) × (end ≡ length text)
+
+-- ---- The spans at the front of a text, which is its list of characters: what the contracts of private functions cite
+
+-- Returns what follows the first `k` spans and the whitespace after each.
+abbrev pub rest_after : ℕ → List ℕ → List ℕ
+rest_after zero text = drop_while is_whitespace text
+rest_after (suc k) text = drop_while is_whitespace (after_word (rest_after k text))
+
+-- Returns the first `k` spans.
+abbrev pub first_spans : ℕ → List ℕ → List SpelledSpan
+first_spans zero text = []
+first_spans (suc k) text = first_spans k text ++ span_of (rest_after k text) ∷ []
+
+-- The text begins with `k` whole spans.
+abbrev pub BeginsSpans : ℕ → List ℕ → Type 0
+BeginsSpans zero text = ⊤
+BeginsSpans (suc k) text = BeginsSpans k text × BeginsSpan (rest_after k text)
+
+-- The text begins with `k` whole spans, which are within the limits.
+pub record Fit (text : List ℕ) (k : ℕ) : Type 0 where
+  pub begins : BeginsSpans k text
+  pub within : WithinLimits (first_spans k text)
+
+-- Returns the offset of what follows the first `k` spans.
+abbrev pub start_after : ℕ → List ℕ → ℕ
+start_after k text = offset_of text (rest_after k text)
+
+-- Returns the offset after the span that follows the first `k`.
+abbrev pub span_end : ℕ → List ℕ → ℕ
+span_end k text = offset_of text (after_word (rest_after k text))
+
+-- Whole spans precede the offsets, and the next one lies between them.
+pub record IsSpanAfter (text : List ℕ) (k start end : ℕ) : Type 0 where
+  pub begins : BeginsSpans (suc k) text
+  pub at_start : start ≡ start_after k text
+  pub at_end : end ≡ span_end k text

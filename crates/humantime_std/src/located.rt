@@ -5,11 +5,11 @@ ghost use Rattle.std.specs.Char.{is_ascii_digit};
 ghost use Rattle.std.specs.List.{prefix_len};
 ghost use Rattle.std.specs.Result.{result_err, result_map_both};
 ghost use Rattle.std.specs.Str.{IsCharBoundary};
+ghost use Rattle.humantime.specs.declared.date.error.TimestampError.TheVariants.{OutOfRange};
 ghost use Rattle.humantime.specs.Prelude.{HasFault, NumberOverflow, PointsInto, duration_answer, fault_of, span_view, strict_answer, weak_answer};
 ghost use Rattle.humantime.specs.Timestamps.{has_digits, has_two, number_between};
 ghost use Rattle.humantime_std.specs.Located as spec;
-ghost use Rattle.humantime_std.specs.Fronts.{BeginsSpans, Fit, IsSpanAfter, begun, end_after};
-ghost use Rattle.humantime_std.specs.Located.{IsFaultRange, IsRangeIn, OverflowsAt, bounds, is_continuation, strict_error, weak_error};
+ghost use Rattle.humantime_std.specs.Located.{BeginsSpans, Fit, IsFaultRange, IsRangeIn, IsSpanAfter, OverflowsAt, bounds, is_continuation, start_after, strict_error, weak_error};
 
 use humantime::{
     Date, DurationError, Span, StdDuration, SystemTime, TimestampError, Turns, day_number, spans,
@@ -32,10 +32,6 @@ use unicode_width::UnicodeWidthStr;
 /// //            ^^
 /// let error = Located { error: TimestampError::OutOfRange, start: 11, end: 13 };
 /// assert_eq!(rt; parse_rfc3339_weak("2018-02-14 24:00:00"), Err(error));
-/// // 2018-02-14
-/// //           ^ something is missing here
-/// let error = Located { error: TimestampError::InvalidFormat, start: 10, end: 10 };
-/// assert_eq!(rt; parse_rfc3339_weak("2018-02-14"), Err(error));
 /// ```
 #[derive(Clone, Copy, PartialEq, Eq, Debug)]
 pub struct Located<E> {
@@ -283,27 +279,24 @@ fn overflow_range(text: &str) -> (usize, usize)
     ensures place { OverflowsAt (chars text.now) result.0 result.1 }
     ensures range { IsRangeIn text.now result.0 result.1 }
 {
-    let (count, end) = fitting_front(text);
+    let (count, start) = fitting_front(text);
     match nth_span(text, count) {
         Some(span) => (span.start(), span.end()),
-        None => {
-            let (_, rest) = text.split_at(end);
-            (text.len() - rest.trim_start().len(), text.len())
-        }
+        None => (start, text.len()),
     }
 }
 
-/// Returns how many spans at the front of a text are within the limits, and the offset after them.
+/// Returns how many spans at the front of a text are within the limits, and the offset of what follows them.
 ///
 /// It halves their number: each test parses a front of the text, so one test for each span would take quadratic time.
 fn fitting_front(text: &str) -> (usize, usize)
     requires { HasFault (chars text.now) NumberOverflow }
     ensures fit { Fit (chars text.now) result.0 }
     ensures most { ¬ (Fit (chars text.now) (suc result.0)) }
-    ensures end { result.1 ≡ end_after result.0 (chars text.now) }
-    ensures boundary { IsCharBoundary text.now result.1 }
+    ensures start { result.1 ≡ start_after result.0 (chars text.now) }
 {
-    let (mut low, mut high, mut front) = (0, text.len(), 0);
+    let (mut low, mut high) = (0, text.len());
+    let mut front = text.len() - text.trim_start().len();
     while low < high {
         let middle = low + (high - low) / 2;
         match fitting_end(text, middle) {
@@ -317,15 +310,15 @@ fn fitting_front(text: &str) -> (usize, usize)
     (low, front)
 }
 
-/// Returns the offset after the span at an index, if the spans up to it are within the limits.
+/// Returns the offset after the span at an index and the whitespace behind it, if the spans up to it are within the limits.
 fn fitting_end(text: &str, index: usize) -> Option<usize>
     ensures fit { IfSome result (λ end. Fit (chars text.now) (suc index)) }
-    ensures end { IfSome result (λ end. end ≡ end_after (suc index) (chars text.now)) }
-    ensures boundary { IfSome result (λ end. IsCharBoundary text.now end) }
+    ensures end { IfSome result (λ end. end ≡ start_after (suc index) (chars text.now)) }
     ensures none { IfNone result (¬ (Fit (chars text.now) (suc index))) }
 {
     let span = nth_span(text, index)?;
-    let end = span.end();
+    let (_, rest) = text.split_at(span.end());
+    let end = text.len() - rest.trim_start().len();
     let (front, _) = text.split_at(end);
     match humantime::parse_duration(front) {
         Ok(_) => Some(end),
@@ -336,7 +329,7 @@ fn fitting_end(text: &str, index: usize) -> Option<usize>
 /// Returns the span at an index, if there is one.
 fn nth_span(text: &str, index: usize) -> Option<Span<'_>>
     ensures some { IfSome result (λ s. IsSpanAfter (chars text.now) index (span_view s).start (span_view s).end) }
-    ensures none { IfNone result (¬ (BeginsSpans (suc index) (begun (chars text.now)))) }
+    ensures none { IfNone result (¬ (BeginsSpans (suc index) (chars text.now))) }
 {
     let Some(item) = spans(text).nth(index) else {
         return None;
@@ -349,7 +342,7 @@ fn nth_span(text: &str, index: usize) -> Option<Span<'_>>
 
 /// Returns an error of a timestamp with its range.
 fn error_in(layout: &Layout, text: &str, error: TimestampError) -> Located<TimestampError>
-    requires numbers { spec.fit_len layout.now text.now ≡ 19 → has_digits text.now ≡ true }
+    requires numbers { error ≡ OutOfRange → has_digits text.now ≡ true }
     ensures { result ≡ spec.located layout.now text.now error }
 {
     let fitting = fit_len(layout, text.as_bytes());
@@ -389,7 +382,7 @@ fn continuation_len(bytes: &[u8]) -> usize
 }
 
 /// Returns the number of bytes at the front that fit a layout.
-#[tactic(auto, using(crate::proofs::Ranges::fit_steps), unfolding(crate::specs::Located::fit_len))]
+#[tactic(auto, using(crate::proofs::Inside::fit_steps), unfolding(crate::specs::Located::fit_len))]
 fn fit_len(layout: &Layout, bytes: &[u8]) -> usize
     ensures len { result ≡ spec.fit_len layout.now bytes.now }
     ensures within { result ≤ length bytes.now }
@@ -415,7 +408,7 @@ fn fits(place: u8, byte: u8) -> bool
 }
 
 /// Returns the bytes of the first field that is out of range.
-#[tactic(auto, unfolding(crate::specs::Located::wrong_field))]
+#[tactic(auto, using(crate::proofs::Inside::fields), unfolding(crate::specs::Located::wrong_field, humantime::specs::Timestamps::has_digits))]
 fn wrong_field(bytes: &[u8]) -> (usize, usize)
     requires long { 19 ≤ length bytes.now }
     requires digits { has_digits bytes.now ≡ true }
@@ -452,7 +445,7 @@ fn first_outside(date: Date, hour: u32, minute: u32, second: u32) -> (usize, usi
 }
 
 /// Returns the number that two digits represent.
-#[tactic(auto, using(crate::proofs::Ranges::number_of_pair))]
+#[tactic(auto, using(crate::proofs::Inside::number_of_pair))]
 fn pair(bytes: &[u8], at: usize) -> u32
     requires long { at + 2 ≤ length bytes.now }
     requires digits { has_two bytes.now at ≡ true }

@@ -1,6 +1,5 @@
 use Rattle.std.proofs.Common.{refl, arith}
-use Rattle.std.proofs.lemmas.Str.{IsCharBoundary-start}
-use Rattle.humantime_std.proofs.Overflows.{none_fits, too_many}
+use Rattle.humantime_std.proofs.Overflows.{none_fits, too_many, trimmed_at}
 use Rattle.humantime_std.proofs.located.fitting_front.Goals as goal
 
 pub loop-low-init : goal.loop-low-init
@@ -8,6 +7,5 @@ loop-low-init c = record {
   order = omega arith;
   fit = none_fits _;
   beyond = too_many _ c.utf8.text;
-  end = refl;
-  boundary = IsCharBoundary-start _ c.utf8.text;
+  start = trimmed_at _ _ _ _ c.utf8.text c.trim_start.utf8 c.trim_start.ensures.trim refl;
 }
