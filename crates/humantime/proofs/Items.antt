@@ -41,7 +41,7 @@ sum_answers bs u n = sum_views_outcome (chars bs) (λ e. n (grind (arith, (encod
 
 -- Each span of a walk has its view, up to the rest that the walk leaves.
 abbrev Lends : List ℕ → Bool → List ℕ → Walk → Type 0
-Lends text first rest w = AreSpanViews text rest (map span_of w.starts) (map (view_at text) w.starts) w.unread
+Lends text first rest w = AreSpanViews text rest (map span_of w.starts) (map (view_at text) w.starts) w.rest
 
 lends : (text : List ℕ) → Steps text (Lends text)
 lends text = grind (arith, next_of, is_span_view, is_fine)

@@ -14,11 +14,11 @@ use Rattle.std.specs.Str.{drop_trailing_whitespace}
 use Rattle.humantime.specs.Characters.{begins, decimal_value, drop_while, take_while, is_digit, is_numeric, is_letter, offset_of}
 use Rattle.humantime.specs.DurationErrors.{number_of, after_number, after_point, after_fraction, fraction_of, word_of, after_word, span_of, UnknownUnit, IsCharStartIn}
 use Rattle.humantime.specs.StepsOfParts.{whitespace_len, HasDigits, begins_with_nonletter, Counted, counted, parts_of}
-use Rattle.humantime.specs.declared.duration.amount.Decimal.{Decimal}
+use Rattle.humantime.specs.declared.duration.amount.Fraction.{Fraction}
 use Rattle.humantime.specs.Durations.{is_some_and, too_long, Scale, scale_of_word}
 use Rattle.humantime.specs.DurationResults.{trimmed, view_at}
 use Rattle.humantime.specs.Walks.{stop_at}
-use Rattle.humantime.specs.StepsOfCalls.{HasRead, skip_word, end_span, read_span}
+use Rattle.humantime.specs.StepsOfCalls.{HasRead, skip_word, skip_span_end, read_span}
 use Rattle.humantime.proofs.Offsets.{digit_at, whitespace_over, no_whitespace, ascii_at, no_bytes, tail_boundary, tail_tail}
 use Rattle.humantime.proofs.Characters.{digit_is, digit_is_numeric, whitespace_is_numeric, whitespace_not_digit, wide_no_digit, digits_value-append, significant_shorter, significant_last, significant_zero, value_shifted, take_while-drop_while, significant_long}
 
@@ -76,15 +76,15 @@ value_grows n (d ∷ ds) = omega (arith, value_grows (n * 10 + digit_value d) ds
 pub power_positive : (n : ℕ) → 0 < 10 ^ n
 power_positive n = one-le-pow n 10 (omega arith)
 
-pub digits_fit : (f : Decimal) (ds : List ℕ) → HasDigits f ds → f.significand < 2 ^ 64
+pub digits_fit : (f : Fraction) (ds : List ℕ) → HasDigits f ds → f.significand < 2 ^ 64
 digits_fit f ds h = omega (arith, h.fits, pow-le-pow_right {n = 10} (omega arith) {i = f.exponent} {j = 19} h.few)
 
 -- There are no more digits before the trailing zeros than in all.
-pub fewer : (f : Decimal) (ds : List ℕ) → HasDigits f ds → f.exponent ≤ f.len
+pub fewer : (f : Fraction) (ds : List ℕ) → HasDigits f ds → f.exponent ≤ f.len
 fewer f ds h = grind (arith, h.parts, significant_shorter)
 
 -- Another digit follows the zeros.
-pub fraction_extended : (f : Decimal) (ds : List ℕ) (c p : ℕ) → HasDigits f ds → is_digit c ≡ true → c ≢ 48 → f.len + 1 ≤ 19 → p ≡ 10 ^ (f.len + 1 - f.exponent)
+pub fraction_extended : (f : Fraction) (ds : List ℕ) (c p : ℕ) → HasDigits f ds → is_digit c ≡ true → c ≢ 48 → f.len + 1 ≤ 19 → p ≡ 10 ^ (f.len + 1 - f.exponent)
     → HasDigits (record { significand = f.significand * p + (c - 48); exponent = f.len + 1; len = f.len + 1 }) (ds ++ c ∷ [])
 fraction_extended f ds c p h is some few power =
     let k = f.len + 1 - f.exponent in
@@ -126,19 +126,19 @@ word_read word next w = grind (arith, common_steps)
 abbrev pub is_bare : Option Counted → Bool
 is_bare fraction = is_some_and (λ x. x.2 == 0) fraction
 
-pub exit_unit : {rest after word : List ℕ} {value : ℕ} {fraction : Option Decimal} (text next end : List ℕ) → HasRead rest value after fraction word → Some next ≡ skip_word (chars word)
-    → scale_of_word (take_while is_letter (chars word)) ≡ None → is_bare (option_map parts_of fraction) ≡ false → Some end ≡ end_span next
+pub exit_unit : {rest after word : List ℕ} {value : ℕ} {fraction : Option Fraction} (text next end : List ℕ) → HasRead rest value after fraction word → Some next ≡ skip_word (chars word)
+    → scale_of_word (take_while is_letter (chars word)) ≡ None → is_bare (option_map parts_of fraction) ≡ false → Some end ≡ skip_span_end next
     → Err (UnknownUnit (offset_of text (chars word)) (offset_of text next) (encode_utf8_all (take_while is_letter (chars word))) value) ≡ read_span text (chars rest)
 unfolding stop_at
 exit_unit text next end b w none bare e = grind (arith, common_steps)
 
 pub no_exit : (text rest word next end : List ℕ) (fraction : Option Counted) (scale : Scale) → begins is_digit rest ≡ true → too_long (span_of rest) ≡ false → fraction ≡ option_map counted (fraction_of rest)
-    → word ≡ after_fraction rest → Some next ≡ skip_word word → scale_of_word (take_while is_letter word) ≡ Some scale → is_bare fraction ≡ false → Some end ≡ end_span next → Ok (view_at text rest, end) ≡ read_span text rest
+    → word ≡ after_fraction rest → Some next ≡ skip_word word → scale_of_word (take_while is_letter word) ≡ Some scale → is_bare fraction ≡ false → Some end ≡ skip_span_end next → Ok (view_at text rest, end) ≡ read_span text rest
 unfolding stop_at
 no_exit text rest word next end fraction scale d s f is w unit bare e = grind (arith, common_steps)
 
 -- What appending a digit to a fraction needs.
-pub ruleset decimals = (fewer, significant_long, significant_zero, digit_range, common_steps)
+pub ruleset fractions = (fewer, significant_long, significant_zero, digit_range, common_steps)
 
 -- What reading a span from its fraction on needs.
 pub ruleset spans = (tail_boundary, tail_tail, no_letters, nat_tests)

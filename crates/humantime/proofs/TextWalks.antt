@@ -159,7 +159,7 @@ begun text = grind (arith, common_steps, take_while-drop_while, take_while-only,
 -- the span at which the sum overflows.
 abbrev ItemsAfter : List ℕ → List SpelledSpan → Walk → Type 0
 ItemsAfter text spans w =
-    (i : Items text (spans ++ map span_of w.starts) w.stop) × (i.rest ≡ w.unread)
+    (i : Items text (spans ++ map span_of w.starts) w.stop) × (i.rest ≡ w.rest)
     × (text ≢ bare_zero → WithinLimits spans → ¬ (WithinLimits (spans ++ map span_of w.starts)) → HasFault text NumberOverflow)
 
 items_end : (text front rest : List ℕ) (spans : List SpelledSpan) (stop : Option Fault) → IsReadTo text front spans rest → EndsOrStops text front spans rest stop

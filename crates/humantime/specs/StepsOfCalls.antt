@@ -4,7 +4,7 @@ use Rattle.std.specs.Borrow.{Bor}
 use Rattle.std.specs.Result.{result_map_both}
 use Rattle.std.specs.Str.{all_ascii_digits, byte}
 use Rattle.std.specs.List.{join_with_byte}
-use Rattle.humantime.specs.declared.duration.amount.Decimal.{Decimal}
+use Rattle.humantime.specs.declared.duration.amount.Fraction.{Fraction}
 use Rattle.humantime.specs.declared.duration.error.DurationError.{DurationError}
 use Rattle.humantime.specs.declared.duration.span.Span.{Span}
 use Rattle.humantime.specs.Characters.{begins, drop_while, decimal_value, is_digit, is_whitespace, is_letter, u64_max}
@@ -50,8 +50,8 @@ after_space [] = []
 after_space (c ∷ cs) = if is_whitespace c then cs else c ∷ cs
 
 -- Reads up to one whitespace character after a word. A character other than a digit or whitespace must not follow a word.
-abbrev pub end_span : List ℕ → Option (List ℕ)
-end_span text = if may_follow_span text then Some (after_space text) else None
+abbrev pub skip_span_end : List ℕ → Option (List ℕ)
+skip_span_end text = if may_follow_span text then Some (after_space text) else None
 
 -- Reads the span at the start of `rest`.
 abbrev pub read_span : List ℕ → List ℕ → Result (SpanView × List ℕ) Fault
@@ -66,7 +66,7 @@ span_result r = result_map_both (λ x. (span_view x.0, chars x.1.now)) fault_of 
 
 -- The number at the start of `rest` and its fraction, if any, were read, and neither is too long: these are their values, each before the
 -- text that follows it.
-pub record HasRead (rest : List ℕ) (value : ℕ) (after_value : List ℕ) (decimals : Option Decimal) (after_decimals : List ℕ) : Type 0 where
+pub record HasRead (rest : List ℕ) (value : ℕ) (after_value : List ℕ) (decimals : Option Fraction) (after_decimals : List ℕ) : Type 0 where
   pub digit : begins is_digit (chars rest) ≡ true
   pub short : too_long (span_of (chars rest)) ≡ false
   pub value_is : value ≡ decimal_value (number_of (chars rest))

@@ -4,13 +4,13 @@ use Rattle.std.specs.Borrow.{Bor}
 use Rattle.std.specs.Map.{lookup}
 use Rattle.std.specs.Str.{drop_trailing_whitespace}
 use Rattle.std.specs.Char.{len_utf8}
-use Rattle.humantime.specs.declared.duration.amount.Decimal.{Decimal}
+use Rattle.humantime.specs.declared.duration.amount.Fraction.{Fraction}
 use Rattle.humantime.specs.declared.duration.amount.Amount.{Amount}
 use Rattle.humantime.specs.Characters.{decimal_value, without_trailing_zeros, begins, drop_while, is_whitespace, is_letter, max_fraction_digits}
 use Rattle.humantime.specs.Durations.{Quantity, Nanos, Seconds, Scale, words, scale_of_word, SpelledSpan}
 use Rattle.humantime.specs.DurationResults.{spelled, trimmed}
 
--- ==== The digits and spans that the `Decimal` and `Amount` of the code represent.
+-- ==== The digits and spans that the `Fraction` and `Amount` of the code represent.
 
 -- A fraction as three numbers: the value of its digits without trailing zeros, the number of these digits, and the number of all digits.
 abbrev pub Counted : Type 0
@@ -20,8 +20,8 @@ Counted = ℕ × ℕ × ℕ
 abbrev pub counted : List ℕ → Counted
 counted ds = (decimal_value (without_trailing_zeros ds), length (without_trailing_zeros ds), length ds)
 
--- Returns the three numbers of a `Decimal` of the code.
-abbrev pub parts_of : Decimal → Counted
+-- Returns the three numbers of a `Fraction` of the code.
+abbrev pub parts_of : Fraction → Counted
 parts_of f = (f.significand, f.exponent, f.len)
 
 -- The amount is the one that the span denotes.
@@ -71,17 +71,17 @@ whitespace_len [] = 0
 whitespace_len (c ∷ cs) = if is_whitespace c then len_utf8 c else 0
 
 -- The fraction has these digits, at most 19 of them before the trailing zeros.
-pub record HasDigits (f : Decimal) (ds : List ℕ) : Type 0 where
+pub record HasDigits (f : Fraction) (ds : List ℕ) : Type 0 where
   pub parts : parts_of f ≡ counted ds
   pub few : f.exponent ≤ max_fraction_digits
   pub fits : f.significand < 10 ^ f.exponent
 
 -- The result, if there is one, has the digits of the fraction and then the digit `c`.
-abbrev pub AppendsIfSome : Decimal → ℕ → Option Decimal → Type 0
+abbrev pub AppendsIfSome : Fraction → ℕ → Option Fraction → Type 0
 AppendsIfSome f c result = (ds : List ℕ) → HasDigits f ds → IfSome result (λ g. HasDigits g (ds ++ c ∷ []))
 
 -- If there is no result, the digit `c` makes more than 19 digits before the trailing zeros, whatever digits follow.
-abbrev pub IsFullIfNone : Decimal → ℕ → Option Decimal → Type 0
+abbrev pub IsFullIfNone : Fraction → ℕ → Option Fraction → Type 0
 IsFullIfNone f c result = (ds : List ℕ) → HasDigits f ds → IfNone result ((es : List ℕ) → max_fraction_digits < length (without_trailing_zeros (ds ++ c ∷ es)))
 
 -- There is only whitespace between the two positions.

@@ -1,5 +1,5 @@
 -- Parsing from left to right: the reference that the contracts of private functions cite. Theorems in `proofs` relate it to the definitions
--- in `Spans` and `Faults`.
+-- in `Durations` and `DurationErrors`.
 use Rattle.std.specs.Prelude.{ℕ, zero, suc, ◌+◌, Bool, true, false, not, ◌==◌, List, [], ◌∷◌, length, Option, Some, None, is_some, Result, Ok, Err, if◌then◌else◌, map, encode_utf8_all}
 use Rattle.humantime.specs.Characters.{begins, drop_while, decimal_value, is_whitespace, is_digit, is_letter, offset_of}
 use Rattle.humantime.specs.Durations.{Quantity, scale_of_word, SpelledSpan, quantity_nanos, additions_of, fits, is_some_and, has_room, too_long}
@@ -22,19 +22,19 @@ stop_at text rest =
 abbrev pub fault_at : List ℕ → List ℕ → Option Fault
 fault_at text rest = if begins is_digit rest then stop_at text rest else Some (NumberExpected (offset_of text rest))
 
--- The rest of the text at the start of each span, the error that stops the spans, if any, and the part of the text that is left unread.
+-- The rest of the text at the start of each span, the error that stops the spans, if any, and the rest of the text at the stop.
 pub record Walk : Type 0 where
   pub starts : List (List ℕ)
   pub stop : Option Fault
-  pub unread : List ℕ
+  pub rest : List ℕ
 
 -- A walk without a span.
 abbrev pub empty_walk : List ℕ → Option Fault → Walk
-empty_walk rest stop = record { starts = []; stop = stop; unread = rest }
+empty_walk rest stop = record { starts = []; stop = stop; rest = rest }
 
 -- A walk with a span before the others.
 abbrev pub one_more : List ℕ → Walk → Walk
-one_more rest w = record { starts = rest ∷ w.starts; stop = w.stop; unread = w.unread }
+one_more rest w = record { starts = rest ∷ w.starts; stop = w.stop; rest = w.rest }
 
 -- The walk over at most `n` spans from a rest on. At the end of the text it stops with an error if there was no span.
 unfoldable pub walk : ℕ → Bool → List ℕ → List ℕ → Walk

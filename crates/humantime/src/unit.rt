@@ -50,9 +50,8 @@ pub(crate) struct Scale {
 macro_rules! unit {
     // One nanosecond, which has no fractions.
     (nanosecond) => { Some(&Scale { whole: Quantity::Nanos(1), part: None }) };
-    // A size in nanoseconds. A fraction must be a whole number of nanoseconds.
+    // A size in nanoseconds or in seconds. A fraction of either must be a whole number of nanoseconds.
     (nanos $size:expr) => { Some(&Scale { whole: Quantity::Nanos($size), part: Some(Quantity::Nanos($size)) }) };
-    // A size in seconds. A fraction must be a whole number of nanoseconds.
     (seconds nanos $size:expr) => { Some(&Scale { whole: Quantity::Seconds($size), part: Some(Quantity::Nanos($size * NANOS_PER_SECOND as u64)) }) };
     // A size in seconds. A fraction must be a whole number of seconds.
     (seconds $size:expr) => { Some(&Scale { whole: Quantity::Seconds($size), part: Some(Quantity::Seconds($size)) }) };

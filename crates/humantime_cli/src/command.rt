@@ -66,9 +66,9 @@ pub fn run<O: Write, E: Write>(words: &[&str], out: &mut O, err: &mut E) -> u8
     ensures one { OneAnswer (texts words.now) }
 {
     match words {
-        ["duration", text] => answer(&Duration::from_str(text), out, err),
-        ["strict", text] => answer(&parse_rfc3339(text).map(Timestamp::from), out, err),
-        ["weak", text] => answer(&parse_rfc3339_weak(text).map(Timestamp::from), out, err),
+        ["duration", text] => write_answer(&Duration::from_str(text), out, err),
+        ["strict", text] => write_answer(&parse_rfc3339(text).map(Timestamp::from), out, err),
+        ["weak", text] => write_answer(&parse_rfc3339_weak(text).map(Timestamp::from), out, err),
         _ => write_line(err, USAGE).and(Ok(MISUSED)).unwrap_or(FAILED),
     }
 }
@@ -77,7 +77,7 @@ pub fn run<O: Write, E: Write>(words: &[&str], out: &mut O, err: &mut E) -> u8
 ///
 /// It takes a reference, because the prover does not accept a call with a `Result<Duration, DurationError<'_>>` by value.
 #[inline(always)]
-fn answer<O: Write, E: Write, V: Display + Copy, F: Display + Copy>(
+fn write_answer<O: Write, E: Write, V: Display + Copy, F: Display + Copy>(
     parsed: &Result<V, F>,
     out: &mut O,
     err: &mut E,

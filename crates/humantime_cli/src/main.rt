@@ -18,13 +18,13 @@ use std::io::{self, Write};
 use std::process::ExitCode;
 
 fn main(rt: HostRuntime) -> ExitCode {
-    ExitCode::from(answer(&rt).unwrap_or(FAILED))
+    ExitCode::from(run_program(&rt).unwrap_or(FAILED))
 }
 
 /// Runs the command given by the program's arguments with standard output and standard error, and returns the exit status.
-fn answer(rt: &HostRuntime) -> io::Result<u8> {
+fn run_program(rt: &HostRuntime) -> io::Result<u8> {
     let args = env::args(&(AfterName(rt), rt.alloc()))?.collect::<Vec<String>>(rt.alloc())?;
-    answer_args(rt.alloc(), &args, &mut rt.stdout(), &mut rt.stderr())
+    run_args(rt.alloc(), &args, &mut rt.stdout(), &mut rt.stderr())
 }
 
 /// The arguments after the program's name, which may be missing and need not be UTF-8. It has no variables.
@@ -46,7 +46,7 @@ impl Env for AfterName<'_> {
 }
 
 /// Runs the command given by `args`, flushes `out`, and returns the exit status.
-fn answer_args<O: Write, E: Write>(
+fn run_args<O: Write, E: Write>(
     alloc: Global,
     args: &[String],
     out: &mut O,

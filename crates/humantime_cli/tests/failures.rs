@@ -1,7 +1,7 @@
 //! Writers that accept one byte at a time, writers that fail, and flushes.
 
 use crate::support::{Failure, Limited, ROOM};
-use crate::{answer_args, run};
+use crate::{run, run_args};
 use std::alloc::Global;
 use std::fmt::Debug;
 use std::io::{self, ErrorKind};
@@ -79,7 +79,7 @@ fn answered(alloc: Global, out: &mut Limited, err: &mut Limited) -> io::Result<u
         String::from_str(alloc, "duration")?,
         String::from_str(alloc, "2h 37min")?,
     ]?;
-    answer_args(alloc, &args, out, err)
+    run_args(alloc, &args, out, err)
 }
 
 /// Asserts that standard output is flushed once, after the whole line.

@@ -163,7 +163,7 @@ fn read_timestamp(bytes: &[u8]) -> Result<SystemTime, TimestampError>
         return Err(layout_error(bytes));
     };
     let seconds = unix_seconds(date_time).ok_or(TimestampError::OutOfRange)?;
-    let nanos = read_fraction(&bytes[19..])?;
+    let nanos = fraction_after_seconds(&bytes[19..])?;
     Ok(SystemTime::after_epoch(seconds, nanos))
 }
 
@@ -235,7 +235,7 @@ fn unix_seconds(when: DateTime) -> Option<u64>
 /// error if the bytes have any other form.
 #[inline(always)]
 #[tactic(auto, unfolding(crate::proofs::TimestampParts::fractions_open))]
-fn read_fraction(rest: &[u8]) -> Result<u32, TimestampError>
+fn fraction_after_seconds(rest: &[u8]) -> Result<u32, TimestampError>
     ensures { result ≡ fraction_answer (Checks.before_zone rest.now) }
 {
     match before_zone(rest) {

@@ -227,7 +227,7 @@ impl Rfc3339Timestamp {
         ensures* unchanged { sem 𝓛 (KeptAtNone 30 buf.entry result) }
     {
         let len = self.write(buf);
-        text_from_len(buf, len)
+        text_if_any(buf, len)
     }
 
     /// Writes the text to the front of `buf` and returns its length in bytes. Outside 1970 to 9999, returns `None`, with `buf` unchanged.
@@ -294,7 +294,7 @@ impl fmt::Display for Rfc3339Timestamp {
 ///
 /// This is a separate function so that the handwritten proof of [`Rfc3339Timestamp::text`] can use its contract.
 #[inline(always)]
-fn text_from_len(buf: &[u8; 30], len: Option<usize>) -> Option<&str>
+fn text_if_any(buf: &[u8; 30], len: Option<usize>) -> Option<&str>
     requires fits { IfSome len (λ n. n ≤ 30) }
     requires utf8 { IfSome len (λ n. IsUtf8 (take n buf.now)) }
     ensures { option_map (λ t. t.now) result ≡ option_map (λ n. take n buf.now) len }

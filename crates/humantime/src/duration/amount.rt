@@ -1,4 +1,4 @@
-//! [`Amount`], what a span adds to a duration, and the arithmetic that builds its number and its [`Decimal`] digit by digit.
+//! [`Amount`], what a span adds to a duration, and the arithmetic that builds its number and its [`Fraction`] digit by digit.
 
 ghost use Rattle.std.specs.Prelude.{◌≡◌, ℕ, List, true, SomeIff, ◌+◌, ◌-◌, ◌*◌, ◌^◌, ◌≤◌, ◌<◌};
 ghost use Rattle.std.specs.Option.{ForSome};
@@ -35,7 +35,7 @@ static POWERS_OF_TEN: [u64; 20] = [
 
 /// The digits after a point. Their value is `significand / 10^exponent`, which is below 1.
 #[derive(Clone, Copy, Debug, Default)]
-pub(crate) struct Decimal {
+pub(crate) struct Fraction {
     /// The digits before the trailing zeros, as an integer.
     pub significand: u64,
     /// The number of digits before the trailing zeros, leading zeros included.
@@ -48,7 +48,7 @@ pub(crate) struct Decimal {
 #[derive(Clone, Copy, Debug)]
 pub(crate) struct Amount {
     pub value: u64,
-    pub fraction: Option<Decimal>,
+    pub fraction: Option<Fraction>,
     pub scale: &'static Scale,
     ghost few: { ForSome fraction (λ f. f.exponent ≤ max_fraction_digits) },
 }
@@ -70,13 +70,13 @@ pub(crate) fn power_of_ten(exponent: usize) -> u64
     POWERS_OF_TEN[exponent]
 }
 
-impl Decimal {
+impl Fraction {
     ghost use Rattle.humantime.specs.StepsOfParts.{HasDigits, AppendsIfSome, IsFullIfNone};
 
     /// Returns the fraction followed by the ASCII digit `c`, or `None` if it then has more than 19 digits before its trailing zeros.
     #[inline(always)]
-    #[tactic(auto, using(crate::proofs::SpanParts::decimals))]
-    pub(crate) fn push(self, c: u8) -> Option<Decimal>
+    #[tactic(auto, using(crate::proofs::SpanParts::fractions))]
+    pub(crate) fn push(self, c: u8) -> Option<Fraction>
         requires digit { is_digit c ≡ true }
         requires digits { (ds : List ℕ) × HasDigits self ds }
         requires room { self.len + 1 < 2 ^ 64 }
@@ -85,7 +85,7 @@ impl Decimal {
     {
         let len = self.len + 1;
         if c == b'0' {
-            return Some(Decimal { len, ..self });
+            return Some(Fraction { len, ..self });
         }
         if len > MAX_FRACTION_DIGITS {
             return None;
@@ -93,7 +93,7 @@ impl Decimal {
         // The zeros before this digit are no longer trailing zeros.
         let power = power_of_ten(len - self.exponent);
         let significand = self.significand * power + (c - b'0') as u64;
-        Some(Decimal {
+        Some(Fraction {
             significand,
             exponent: len,
             len,

@@ -55,16 +55,16 @@ impl<'a> Iterator for SpanIter<'a> {
         if self.ended {
             return None;
         }
-        let unread = skip_whitespace(self.rest);
-        if unread.is_empty() {
+        let rest = skip_whitespace(self.rest);
+        if rest.is_empty() {
             self.ended = true;
             // If `rest` is still the whole text, no span has been read, so the text is empty or only whitespace.
             let is_blank = self.rest.len() == self.text.len();
             return is_blank.then_some(Err(DurationError::Empty));
         }
-        match read_span(self.text, unread) {
-            Ok((span, rest)) => {
-                self.rest = rest;
+        match read_span(self.text, rest) {
+            Ok((span, after_span)) => {
+                self.rest = after_span;
                 Some(Ok(span))
             }
             Err(e) => {

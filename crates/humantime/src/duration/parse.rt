@@ -9,7 +9,7 @@ ghost use Rattle.humantime.specs.StepsOfParts.{IsAmountOf};
 ghost use Rattle.humantime.specs.Prelude.{AreItems, IsDurationAnswer, PointsInto, items_left, result_view, text_of};
 ghost use Rattle.humantime.specs.DurationResults.{item_views, span_in};
 
-use crate::duration::amount::{Amount, Decimal, power_of_ten};
+use crate::duration::amount::{Amount, Fraction, power_of_ten};
 use crate::duration::error::DurationError;
 use crate::duration::iter::SpanIter;
 use crate::unit::Quantity;
@@ -28,7 +28,7 @@ fn add_times(sum: StdDuration, one: Quantity, count: u64) -> Option<StdDuration>
 
 /// Returns the fraction times `factor`, or `None` if that is not a whole number or the significand times `factor` overflows.
 #[tactic(auto, using(crate::proofs::SpanParts::power_positive))]
-fn part_of(fraction: Decimal, factor: u64) -> Option<u64>
+fn part_of(fraction: Fraction, factor: u64) -> Option<u64>
     requires { fraction.exponent ≤ max_fraction_digits }
     ensures { SomeIff result (IsTrue (is_whole_part factor fraction.significand fraction.exponent)) (fraction.significand * factor / 10 ^ fraction.exponent) }
 {
@@ -40,7 +40,7 @@ fn part_of(fraction: Decimal, factor: u64) -> Option<u64>
 /// Returns `sum` plus the fraction of `one`, or `None` on overflow or if that part is not a whole number.
 ///
 /// If `one` is `None`, as for nanoseconds, which have no fractions, the result is `None` unless the fraction is zero.
-fn add_part(sum: StdDuration, one: Option<Quantity>, fraction: Decimal) -> Option<StdDuration>
+fn add_part(sum: StdDuration, one: Option<Quantity>, fraction: Fraction) -> Option<StdDuration>
     requires { fraction.exponent ≤ max_fraction_digits }
     ensures { result ≡ steps.add_part sum one fraction.significand fraction.exponent }
 {

@@ -300,14 +300,14 @@ pub fn canonical<'a, 'b>(s: &'a str, buf: &'b mut [u8; 64]) -> Result<&'b str, D
     ensures* unchanged { sem 𝓛 (KeptAtErr 64 buf.entry result) }
 {
     let len = write_canonical(s, buf);
-    text_from_len(buf, len)
+    text_or_error(buf, len)
 }
 
 /// Returns the text in the first `len` bytes of the buffer, or the error if `len` is one.
 ///
 /// This is a separate function so that the handwritten proof of [`canonical`] can use its contract.
 #[inline(always)]
-fn text_from_len<'a, 'b>(
+fn text_or_error<'a, 'b>(
     buf: &'b [u8; 64],
     len: Result<usize, DurationError<'a>>,
 ) -> Result<&'b str, DurationError<'a>>

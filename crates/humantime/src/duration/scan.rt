@@ -11,7 +11,7 @@ ghost use Rattle.humantime.specs.StepsOfCalls as reader;
 ghost use Rattle.humantime.specs.StepsOfCalls.{read_view, HasRead, span_result};
 ghost use Rattle.humantime.specs.StepsOfParts.{parts_of, IsTail, SkipsWhitespace, whitespace_len};
 
-use crate::duration::amount::{Amount, Decimal, push_digit};
+use crate::duration::amount::{Amount, Fraction, push_digit};
 use crate::duration::error::DurationError;
 use crate::duration::span::Span;
 use crate::unit::scale_of;
@@ -87,21 +87,21 @@ fn skip_spaces(text: &str, from: usize) -> usize
 /// Returns what follows the whitespace at the start of the text, if any.
 #[inline(always)]
 #[tactic(auto, using(crate::proofs::Offsets::first))]
-pub(crate) fn skip_whitespace(s: &str) -> &str
-    ensures read { chars result.now ≡ drop_while is_whitespace (chars s.now) }
-    ensures rest { IsTail s.now result.now }
+pub(crate) fn skip_whitespace(text: &str) -> &str
+    ensures read { chars result.now ≡ drop_while is_whitespace (chars text.now) }
+    ensures rest { IsTail text.now result.now }
 {
-    // Usually a digit is first, because `end_span` has skipped the space before it.
-    if begins_with_digit(s) {
-        return s;
+    // Usually a digit is first, because `skip_span_end` has skipped the space before it.
+    if begins_with_digit(text) {
+        return text;
     }
     let mut at = 0;
-    while at < s.len()
-        && let Some(next) = skip_whitespace_char(s, at)
+    while at < text.len()
+        && let Some(next) = skip_whitespace_char(text, at)
     {
-        at = skip_spaces(s, next);
+        at = skip_spaces(text, next);
     }
-    &s[at..]
+    &text[at..]
 }
 
 /// Returns `true` if the text begins with an ASCII digit.
@@ -118,12 +118,12 @@ pub(crate) fn begins_with_digit(text: &str) -> bool
 /// value does not fit in a `u64`. The text must begin with a digit.
 #[inline(always)]
 #[tactic(auto, using(crate::proofs::Offsets::rests, crate::proofs::SpanParts::first_digit))]
-pub(crate) fn read_number(s: &str) -> Option<(u64, &str)>
-    requires { begins is_digit (chars s.now) ≡ true }
-    ensures read { read_view (λ n. n) result ≡ reader.read_number (chars s.now) }
-    ensures rest { IfSome result (λ x. IsTail s.now x.1.now) }
+pub(crate) fn read_number(text: &str) -> Option<(u64, &str)>
+    requires { begins is_digit (chars text.now) ≡ true }
+    ensures read { read_view (λ n. n) result ≡ reader.read_number (chars text.now) }
+    ensures rest { IfSome result (λ x. IsTail text.now x.1.now) }
 {
-    let bytes = s.as_bytes();
+    let bytes = text.as_bytes();
     let mut value = (bytes[0] - b'0') as u64;
     let mut at = 1;
     while at < bytes.len() {
@@ -137,60 +137,60 @@ pub(crate) fn read_number(s: &str) -> Option<(u64, &str)>
             } else {
                 value * 10 + digit
             };
-        } else if let Some(next) = skip_whitespace_char(s, at) {
+        } else if let Some(next) = skip_whitespace_char(text, at) {
             at = next;
         } else {
             break;
         }
     }
-    Some((value, &s[at..]))
+    Some((value, &text[at..]))
 }
 
 /// Returns what follows the decimal point at the start of the text, or `None` if there is no point.
 #[inline(always)]
 #[tactic(auto, using(crate::proofs::Offsets::first), unfolding(crate::specs::Characters::is_point))]
-pub(crate) fn skip_point(s: &str) -> Option<&str>
-    ensures read { option_map (λ t. chars t.now) result ≡ after_point (chars s.now) }
-    ensures rest { IfSome result (λ t. IsTail s.now t.now) }
+pub(crate) fn skip_point(text: &str) -> Option<&str>
+    ensures read { option_map (λ t. chars t.now) result ≡ after_point (chars text.now) }
+    ensures rest { IfSome result (λ t. IsTail text.now t.now) }
 {
-    if s.is_empty() || s.as_bytes()[0] != b'.' {
+    if text.is_empty() || text.as_bytes()[0] != b'.' {
         return None;
     }
-    Some(&s[1..])
+    Some(&text[1..])
 }
 
 /// Reads the digits of a fraction at the start of the text, if any, with the whitespace around and between them. Returns the digits and the
 /// rest, or `None` if there are more than 19 digits before the trailing zeros.
 #[inline(always)]
 #[tactic(auto, using(crate::proofs::Offsets::rests, crate::proofs::Characters::digit_is))]
-pub(crate) fn read_fraction(s: &str) -> Option<(Decimal, &str)>
-    ensures read { read_view parts_of result ≡ reader.read_fraction (chars s.now) }
-    ensures rest { IfSome result (λ x. IsTail s.now x.1.now) }
+pub(crate) fn read_fraction(text: &str) -> Option<(Fraction, &str)>
+    ensures read { read_view parts_of result ≡ reader.read_fraction (chars text.now) }
+    ensures rest { IfSome result (λ x. IsTail text.now x.1.now) }
 {
-    let bytes = s.as_bytes();
-    let mut decimal = Decimal::default();
+    let bytes = text.as_bytes();
+    let mut fraction = Fraction::default();
     let mut at = 0;
     while at < bytes.len() {
         if bytes[at].is_ascii_digit() {
-            decimal = decimal.push(bytes[at])?;
+            fraction = fraction.push(bytes[at])?;
             at += 1;
-        } else if let Some(next) = skip_whitespace_char(s, at) {
+        } else if let Some(next) = skip_whitespace_char(text, at) {
             at = next;
         } else {
             break;
         }
     }
-    Some((decimal, &s[at..]))
+    Some((fraction, &text[at..]))
 }
 
 /// Returns what follows the letters (ASCII, `µ` or `μ`) at the start of the text, or `None` if it begins with another character.
 #[inline(always)]
 #[tactic(auto, using(crate::proofs::Offsets::rests))]
-pub(crate) fn skip_word(s: &str) -> Option<&str>
-    ensures read { option_map (λ t. chars t.now) result ≡ reader.skip_word (chars s.now) }
-    ensures rest { IfSome result (λ t. IsTail s.now t.now) }
+pub(crate) fn skip_word(text: &str) -> Option<&str>
+    ensures read { option_map (λ t. chars t.now) result ≡ reader.skip_word (chars text.now) }
+    ensures rest { IfSome result (λ t. IsTail text.now t.now) }
 {
-    let bytes = s.as_bytes();
+    let bytes = text.as_bytes();
     let mut at = 0;
     while at < bytes.len() {
         // `>= 0x80` is tested first, so that an ASCII character that ends the word costs one test.
@@ -203,31 +203,31 @@ pub(crate) fn skip_word(s: &str) -> Option<&str>
         }
     }
     // At the end of the text, the word is empty: the caller reports that the unit is missing.
-    (at > 0 || s.is_empty()).then_some(&s[at..])
+    (at > 0 || text.is_empty()).then_some(&text[at..])
 }
 
-/// Takes the text after the word of a span. Returns it without its first character if that is whitespace, unchanged if it is empty or begins
-/// with a digit, and otherwise `None`, since no other character may follow a word.
+/// Returns the text after the word of a span, without the whitespace character at its start, if any. Returns `None` if the word may not end
+/// there, because a character other than whitespace or a digit follows it.
 ///
 /// It skips one character, since there is usually only one before the next digit. `skip_whitespace` skips the others.
 #[inline(always)]
 #[tactic(auto, using(crate::proofs::Offsets::span_ends))]
-pub(crate) fn end_span(s: &str) -> Option<&str>
-    ensures read { option_map (λ t. chars t.now) result ≡ reader.end_span (chars s.now) }
-    ensures rest { IfSome result (λ t. IsTail s.now t.now) }
+pub(crate) fn skip_span_end(text: &str) -> Option<&str>
+    ensures read { option_map (λ t. chars t.now) result ≡ reader.skip_span_end (chars text.now) }
+    ensures rest { IfSome result (λ t. IsTail text.now t.now) }
 {
     // The end of the text or a space follows most words, so these are tested first.
-    if s.is_empty() {
-        return Some(s);
+    if text.is_empty() {
+        return Some(text);
     }
-    if s.as_bytes()[0] == b' ' {
-        return Some(&s[1..]);
+    if text.as_bytes()[0] == b' ' {
+        return Some(&text[1..]);
     }
-    if begins_with_digit(s) {
-        return Some(s);
+    if begins_with_digit(text) {
+        return Some(text);
     }
-    let len = skip_whitespace_char(s, 0)?;
-    Some(&s[len..])
+    let len = skip_whitespace_char(text, 0)?;
+    Some(&text[len..])
 }
 
 /// A span and the string after it, or the error of the first check that fails.
@@ -263,10 +263,10 @@ pub(crate) fn read_span<'a>(text: &'a str, rest: &'a str) -> ReadSpan<'a>
     let Some(after_point) = skip_point(after_number) else {
         return complete_span(text, rest, value, after_number, None, after_number);
     };
-    let Some((digits, after_digits)) = read_fraction(after_point) else {
+    let Some((fraction, after_fraction)) = read_fraction(after_point) else {
         return Err(DurationError::NumberOverflow);
     };
-    complete_span(text, rest, value, after_number, Some(digits), after_digits)
+    complete_span(text, rest, value, after_number, Some(fraction), after_fraction)
 }
 
 /// Reads the unit after a number and its fraction, if any, and returns the result of [`read_span`]. The value and the fraction were read from
@@ -278,7 +278,7 @@ fn complete_span<'a>(
     rest: &'a str,
     value: u64,
     after_number: &'a str,
-    fraction: Option<Decimal>,
+    fraction: Option<Fraction>,
     after_fraction: &'a str,
 ) -> ReadSpan<'a>
     requires tail { IsTail text.now rest.now }
@@ -295,7 +295,7 @@ fn complete_span<'a>(
         return Err(DurationError::InvalidCharacter(offset_in(text, after_number)));
     }
     // `1foo~` is wrong at the `~`, so what follows the word is tested before the word.
-    let Some(next) = end_span(after_word) else {
+    let Some(after_span) = skip_span_end(after_word) else {
         return Err(DurationError::InvalidCharacter(offset_in(text, after_word)));
     };
     let unit = &after_fraction[..after_fraction.len() - after_word.len()];
@@ -322,5 +322,5 @@ fn complete_span<'a>(
             scale,
         },
     };
-    Ok((span, next))
+    Ok((span, after_span))
 }

@@ -2,7 +2,7 @@
 --
 -- The kit proves a clause `ensures*`, which here says that an error leaves the buffer unchanged, by itself only if the buffer is the first parameter and
 -- a struct or of a generic type. Here it is the second one, and an array. So this proof walks through the compiled body, a call of `write_canonical` and
--- one of `text_from_len`, in the kit's separation logic. What is held at a point, such as a reference, the token of a lifetime or a known fact, is
+-- one of `text_or_error`, in the kit's separation logic. What is held at a point, such as a reference, the token of a lifetime or a known fact, is
 -- a list. A comment in brackets shows it, and `move` and `keep` choose from it by position.
 --
 --  1. `s`, `buf` and the tokens of their lifetimes are taken apart, and the body is entered (`enter`).
@@ -10,14 +10,14 @@
 --  3. `write_canonical` is called by its contract `G` (`calls_at`). `heard` names each fact that it ensures.
 --  4. α ends, and `buf` is back (`comes_back`), with the last bytes `y`.
 --  5. `buf` is shared for the rest of its own lifetime (`ref_Share`), so that the result may borrow from it.
---  6. `text_from_len` is called by its contract `H`, whose two requirements follow from what was heard.
+--  6. `text_or_error` is called by its contract `H`, whose two requirements follow from what was heard.
 --  7. The body returns (`returns`), and the clauses of `canonical` follow (`ends_at`): all but the last as facts, and the last by `holds`, from
 --     the last bytes of `buf`.
 --
--- A change of the body, or of a clause of `write_canonical` or `text_from_len`, changes the steps above that name it: `rt check` then stops at the first
+-- A change of the body, or of a clause of `write_canonical` or `text_or_error`, changes the steps above that name it: `rt check` then stops at the first
 -- step that does not fit, and prints what is held there, which is to be compared with the list in brackets before it. A new version of the kit may
 -- rename or change what comes from its libraries `base`, `borrow`, `contract`, `denote`, `mir`, `seplogic` and `types`, also by way of
--- `proofs/Walks.antt`, or hand over the resources in another order.
+-- `proofs/StandardFacts.antt`, or hand over the resources in another order.
 use Rattle.humantime.proofs.StandardFacts.{Val, ◌≡◌, ℕ, ◌≤◌, List, [], ◌∷◌, refl, MutBor, proved, full_share, id⊢, emp, ftrue, flft, fres, named, fact, fact_i, tables, ‵, raw, ◌⊛◌, some, later, ◌$◌, ◌∵◌, !, qed, by, move, keep, drop, use0, use1, use2, use3, split, join, fsplit, fjoin, feq_i, feq_l, pick, await, suffices, frame, enter, addr, stop, no_more, and_then, returns, alloc_all, pass_all, free_all, look_at, get, through, sets, of_opd, lands_as, shows, MutRef, mut_vals, shr_vals, mut_Tells, plain, nothing, heard, peeks, calls_at, lasts, triple_of, Stays, stay_dropped, Goes-dropped, Goes-spent_ref, ends_at, yes, no, framed}
 use mir.Syntax.{w8, erased}
 use Rattle.std.specs.Borrow.{Array, u8}
@@ -51,8 +51,8 @@ use Rattle.humantime.proofs.duration.print.canonical.Code as code
 use Rattle.humantime.proofs.duration.print.canonical.Lts as lts
 use Rattle.humantime.specs.contracts.duration.print.write_canonical as g
 use Rattle.humantime.proofs.duration.print.write_canonical.Met as g-met
-use Rattle.humantime.specs.contracts.duration.print.text_from_len as h
-use Rattle.humantime.proofs.duration.print.text_from_len.Met as h-met
+use Rattle.humantime.specs.contracts.duration.print.text_or_error as h
+use Rattle.humantime.proofs.duration.print.text_or_error.Met as h-met
 
 abbrev text_vals : Bor (List ℕ) → List Val
 text_vals x = slice_val x.ref_ptr (length x.now) ∷ []
@@ -125,7 +125,7 @@ canonical_spec {M} 𝓤 𝓛 𝓜 𝓡 wired =
     nothing ! $ move ! (4 ∷ 0 ∷ []) $ join ! $ move ! (2 ∷ 0 ∷ []) $ join ! $ join ! $
     use0 𝓛 (raw (fact 𝓤 (IfOk m (λ n. IsUtf8 (take n y))))) (fact_i 𝓤 _ (emp 𝓤) utf8) $
     use0 𝓛 (raw (fact 𝓤 (IfOk m (λ n. n ≤ 64)))) (fact_i 𝓤 _ (emp 𝓤) fits) $ join ! $ move ! (1 ∷ 0 ∷ []) $ use2 𝓛 (raw (H.pre z')) (id⊢ 𝓤 _) $
-    calls_at ! (framed 𝓤 𝓛.H 𝓜 (tables 𝓤 𝓛.H 𝓜 𝓡 𝓡.env)) H (h-met.met 𝓤 𝓛 𝓜 𝓡 (code.calls-humantime::duration::print::text_from_len 𝓡.env wired)) z'
+    calls_at ! (framed 𝓤 𝓛.H 𝓜 (tables 𝓤 𝓛.H 𝓜 𝓡 𝓡.env)) H (h-met.met 𝓤 𝓛 𝓜 𝓡 (code.calls-humantime::duration::print::text_or_error 𝓡.env wired)) z'
     (and_then ! (get ! refl) (and_then ! (get ! refl) (no_more !))) (λ w.
     use1 𝓛 (later (some (λ (t : Result (Bor (List ℕ)) DurationError). ((‵ (flft κ q) ⊛ ‵ (flft κ₀ q₀) ⊛ ‵ ftrue) ⊛ ‵ (Res.own_val t (w ∷ []))) ⊛
     some (λ (ws' : Lasts h.ended z'.0.0 z'.0.3). ‵ (lasts h.ended z'.0.0 z'.0.3 ws') ⊛ raw (fact 𝓤 (IfOk m (λ n. text_result_view t ≡ Ok (take n y)))) ⊛ raw (fact 𝓤 (IfErr m (λ e. t ≡ Err e))))))) (id⊢ 𝓤 _) $

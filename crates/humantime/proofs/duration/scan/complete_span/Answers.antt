@@ -22,8 +22,8 @@ returns-then-is_some_and-clause-places c =
     let place = tail_place _ _ (tail_tail _ _ _ c.requires.tail c.requires.parts.value_tail) in
     grind (arith, common_steps, place)
 
-pub returns-in_default-end_span-clause-places : goal.returns-in_default-end_span-clause-places
-returns-in_default-end_span-clause-places c =
+pub returns-in_default-skip_span_end-clause-places : goal.returns-in_default-skip_span_end-clause-places
+returns-in_default-skip_span_end-clause-places c =
     let b = c.requires.parts in
     let place = tail_place _ _ (tail_tail _ _ _ (tail_tail _ _ _ (tail_tail _ _ _ c.requires.tail b.value_tail) b.decimals_tail) c.in-Some.ensures.rest) in
     grind (arith, common_steps, place)
@@ -32,7 +32,7 @@ pub returns-in_default-scale_of-clause-read : goal.returns-in_default-scale_of-c
 returns-in_default-scale_of-clause-read c =
     let bare : is_bare (option_map parts_of c.args.fraction) ≡ c.is_some_and.result = grind (arith, c.is_some_and.ensures, common_steps, nat_tests) in
     let letters = front_read is_letter _ _ _ c.in-Some.ensures.rest (word_read _ _ c.in-Some.ensures.read) c.range-unit.ensures.value in
-    let exit = exit_unit (chars c.args.text.now) _ _ c.requires.parts c.in-Some.ensures.read (sym (c.in_default-scale_of.ensures ∙ ap scale_of_word letters)) (bare ∙ c.if-is_some_and.false) c.in-Some-end_span.ensures.read in
+    let exit = exit_unit (chars c.args.text.now) _ _ c.requires.parts c.in-Some.ensures.read (sym (c.in_default-scale_of.ensures ∙ ap scale_of_word letters)) (bare ∙ c.if-is_some_and.false) c.in-Some-skip_span_end.ensures.read in
     grind (arith, exit, sym (encodes-chars _ c.range-unit.utf8) ∙ ap encode_utf8_all letters)
 
 pub returns-in_default-scale_of-clause-places : goal.returns-in_default-scale_of-clause-places
@@ -62,7 +62,7 @@ returns-clause-read c =
     let unit = front_read is_letter _ _ _ c.in-Some.ensures.rest word c.range-unit.ensures.value in
     let digits = c.skip_point.ensures.read ∙ fraction_digits _ _ _ (sym b.after_value_is ∙ front_chars _ _ _ b.decimals_tail c.range-2.utf8 c.range-2.ensures.value) b.after_decimals_is in
     let bare : is_bare (option_map parts_of c.args.fraction) ≡ c.is_some_and.result = grind (arith, c.is_some_and.ensures, common_steps, nat_tests) in
-    let read = no_exit (chars c.args.text.now) _ _ _ _ _ _ b.digit b.short b.decimals_are b.after_decimals_is c.in-Some.ensures.read (sym (c.in-Some-scale_of.ensures ∙ ap scale_of_word unit)) (bare ∙ c.if-is_some_and.false) c.in-Some-end_span.ensures.read in
+    let read = no_exit (chars c.args.text.now) _ _ _ _ _ _ b.digit b.short b.decimals_are b.after_decimals_is c.in-Some.ensures.read (sym (c.in-Some-scale_of.ensures ∙ ap scale_of_word unit)) (bare ∙ c.if-is_some_and.false) c.in-Some-skip_span_end.ensures.read in
     grind (arith, read, number, digits, unit, word)
 
 pub returns-clause-places : goal.returns-clause-places

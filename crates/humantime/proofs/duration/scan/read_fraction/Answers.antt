@@ -17,24 +17,24 @@ loop-at-preserved-then-is_ascii_digit c =
     let i = c.loop-at.invariant in
     record {
       taken = i.taken ++ get_or c.as_bytes-bytes.result.now c.loop-at.at 0 ∷ [];
-      read = grind (arith, append_assoc, (read_digit c.args.s.now c.loop-at.at c.utf8.s), i.read);
-      digits = c.in_ok-decimal.ensures.pushed i.taken i.digits;
+      read = grind (arith, append_assoc, (read_digit c.args.text.now c.loop-at.at c.utf8.text), i.read);
+      digits = c.in_ok-fraction.ensures.pushed i.taken i.digits;
       few = grind (arith, length-append, i.few);
     }
 
 pub loop-at-preserved : goal.loop-at-preserved
 loop-at-preserved c =
     let i = c.loop-at.invariant in
-    record { taken = i.taken; read = grind (arith, (read_whitespace _ c.loop-at.at c.in-Some.next c.utf8.s), i.read); digits = i.digits; few = omega (arith, i.few) }
+    record { taken = i.taken; read = grind (arith, (read_whitespace _ c.loop-at.at c.in-Some.next c.utf8.text), i.read); digits = i.digits; few = omega (arith, i.few) }
 
-pub returns-in_err-decimal-clause-read : goal.returns-in_err-decimal-clause-read
-returns-in_err-decimal-clause-read c =
+pub returns-in_err-fraction-clause-read : goal.returns-in_err-fraction-clause-read
+returns-in_err-fraction-clause-read c =
     let i = c.loop-at.invariant in
-    let over = c.in_err-decimal.ensures.full i.taken i.digits (number_of (chars (drop (c.loop-at.at + 1) c.args.s.now))) in
-    grind (arith, nat_tests, (read_digit c.args.s.now c.loop-at.at c.utf8.s), i.read, over)
+    let over = c.in_err-fraction.ensures.full i.taken i.digits (number_of (chars (drop (c.loop-at.at + 1) c.args.text.now))) in
+    grind (arith, nat_tests, (read_digit c.args.text.now c.loop-at.at c.utf8.text), i.read, over)
 
 pub returns-clause-read : goal.returns-clause-read
 returns-clause-read c =
     let i = c.loop-at.invariant in
-    let ended : begins is_numeric (chars (drop c.loop-at.at c.args.s.now)) ≡ false = grind (arith, else-loop-at-test, then-loop-at-test+else-is_ascii_digit+in_default, no_chars_at, stops_here) in
+    let ended : begins is_numeric (chars (drop c.loop-at.at c.args.text.now)) ≡ false = grind (arith, else-loop-at-test, then-loop-at-test+else-is_ascii_digit+in_default, no_chars_at, stops_here) in
     grind (arith, common_steps, nat_tests, ended, append-nil, i.read, i.digits.parts, i.digits.few)

@@ -9,24 +9,24 @@ use Rattle.humantime.proofs.duration.scan.read_number.Goals as goal
 use Rattle.humantime.proofs.duration.scan.read_number.Goals.{else-loop-at-test, then-loop-at-test+else-digit-le9+in_default}
 
 pub loop-at-init : goal.loop-at-init
-loop-at-init c = grind (arith, nat_tests, starts, first_digit, (read_digit c.args.s.now 0 c.utf8.s), digit_value_digit, digit_range, digit_is, c.type_inv.bytes)
+loop-at-init c = grind (arith, nat_tests, starts, first_digit, (read_digit c.args.text.now 0 c.utf8.text), digit_value_digit, digit_range, digit_is, c.type_inv.bytes)
 
 pub loop-at-preserved-else-value-ge-TENTH_OF_MAX : goal.loop-at-preserved-else-value-ge-TENTH_OF_MAX
 loop-at-preserved-else-value-ge-TENTH_OF_MAX c =
-    grind (arith, (read_digit c.args.s.now c.loop-at.at c.utf8.s), (digit_left _ (c.loop-at.invariant.bytes c.loop-at.at) c.if-digit-le9.true))
+    grind (arith, (read_digit c.args.text.now c.loop-at.at c.utf8.text), (digit_left _ (c.loop-at.invariant.bytes c.loop-at.at) c.if-digit-le9.true))
 
 pub loop-at-preserved-in_ok-value : goal.loop-at-preserved-in_ok-value
 loop-at-preserved-in_ok-value c =
-    grind (arith, (read_digit c.args.s.now c.loop-at.at c.utf8.s), (digit_left _ (c.loop-at.invariant.bytes c.loop-at.at) c.if-digit-le9.true))
+    grind (arith, (read_digit c.args.text.now c.loop-at.at c.utf8.text), (digit_left _ (c.loop-at.invariant.bytes c.loop-at.at) c.if-digit-le9.true))
 
 pub loop-at-preserved : goal.loop-at-preserved
-loop-at-preserved c = grind (arith, (read_whitespace c.args.s.now c.loop-at.at c.in-Some.next c.utf8.s))
+loop-at-preserved c = grind (arith, (read_whitespace c.args.text.now c.loop-at.at c.in-Some.next c.utf8.text))
 
 pub returns-in_err-value-clause-read : goal.returns-in_err-value-clause-read
 returns-in_err-value-clause-read c =
-    grind (arith, nat_tests, (read_digit c.args.s.now c.loop-at.at c.utf8.s), (digit_left _ (c.loop-at.invariant.bytes c.loop-at.at) c.if-digit-le9.true), value_grows)
+    grind (arith, nat_tests, (read_digit c.args.text.now c.loop-at.at c.utf8.text), (digit_left _ (c.loop-at.invariant.bytes c.loop-at.at) c.if-digit-le9.true), value_grows)
 
 pub returns-clause-read : goal.returns-clause-read
 returns-clause-read c =
-    let ended : begins is_numeric (chars (drop c.loop-at.at c.args.s.now)) ≡ false = grind (arith, else-loop-at-test, then-loop-at-test+else-digit-le9+in_default, no_chars_at, other_left, stops_here) in
+    let ended : begins is_numeric (chars (drop c.loop-at.at c.args.text.now)) ≡ false = grind (arith, else-loop-at-test, then-loop-at-test+else-digit-le9+in_default, no_chars_at, other_left, stops_here) in
     grind (arith, nat_tests, ended, c.loop-at.invariant)

@@ -6,12 +6,12 @@ use Rattle.humantime.proofs.duration.scan.read_number.Given as goal
 
 abbrev pub invariant-loop-at : goal.invariant-loop-at
 invariant-loop-at l = record {
-  place : IsCharBoundary l.s l.at;
-  value : digits_value_after 10 l.value (number_of (chars (drop l.at l.s))) ≡ decimal_value (number_of (chars l.s));
-  after : after_number (chars (drop l.at l.s)) ≡ after_number (chars l.s);
+  place : IsCharBoundary l.text l.at;
+  value : digits_value_after 10 l.value (number_of (chars (drop l.at l.text))) ≡ decimal_value (number_of (chars l.text));
+  after : after_number (chars (drop l.at l.text)) ≡ after_number (chars l.text);
   fits : l.value ≤ u64_max;
   bytes : (k : ℕ) → get_or l.bytes k 0 < 256;
 }
 
 abbrev pub decreases-loop-at : goal.decreases-loop-at
-decreases-loop-at l = length l.s - l.at
+decreases-loop-at l = length l.text - l.at

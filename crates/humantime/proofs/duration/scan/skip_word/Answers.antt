@@ -10,7 +10,7 @@ use Rattle.humantime.proofs.duration.scan.skip_word.Goals.{else-loop-at-test, th
 
 pub loop-at-preserved-then-is_ascii_alphabetic : goal.loop-at-preserved-then-is_ascii_alphabetic
 unfolding is_letter
-loop-at-preserved-then-is_ascii_alphabetic c = grind (arith, common_steps, nat_tests, (ascii_at c.args.s.now c.loop-at.at c.utf8.s))
+loop-at-preserved-then-is_ascii_alphabetic c = grind (arith, common_steps, nat_tests, (ascii_at c.args.text.now c.loop-at.at c.utf8.text))
 
 pub loop-at-preserved : goal.loop-at-preserved
 loop-at-preserved c = grind (arith, common_steps, nat_tests, mu_over)
@@ -18,6 +18,6 @@ loop-at-preserved c = grind (arith, common_steps, nat_tests, mu_over)
 pub returns-clause-read : goal.returns-clause-read
 unfolding is_letter encode
 returns-clause-read c =
-    let rest : chars (drop c.loop-at.at c.args.s.now) ≡ drop_while is_letter (chars c.args.s.now) =
+    let rest : chars (drop c.loop-at.at c.args.text.now) ≡ drop_while is_letter (chars c.args.text.now) =
     grind (arith, common_steps, nat_tests, else-loop-at-test, then-loop-at-test+else-is_ascii_alphabetic+else-bytes-at-ge128, no_chars_at, ascii_at, cases_lt, char_at) in
-    grind (arith, common_steps, nat_tests, rest, (word_begins c.args.s.now c.loop-at.at c.utf8.s c.loop-at.invariant.place rest), else-at-gt0, then-at-gt0)
+    grind (arith, common_steps, nat_tests, rest, (word_begins c.args.text.now c.loop-at.at c.utf8.text c.loop-at.invariant.place rest), else-at-gt0, then-at-gt0)

@@ -5,9 +5,9 @@ use Rattle.humantime.proofs.duration.scan.skip_word.Given as goal
 
 abbrev pub invariant-loop-at : goal.invariant-loop-at
 invariant-loop-at l = record {
-  place : IsCharBoundary l.s l.at;
-  same : drop_while is_letter (chars (drop l.at l.s)) ≡ drop_while is_letter (chars l.s);
+  place : IsCharBoundary l.text l.at;
+  same : drop_while is_letter (chars (drop l.at l.text)) ≡ drop_while is_letter (chars l.text);
 }
 
 abbrev pub decreases-loop-at : goal.decreases-loop-at
-decreases-loop-at l = length l.s - l.at
+decreases-loop-at l = length l.text - l.at

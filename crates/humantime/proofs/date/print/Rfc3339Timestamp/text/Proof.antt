@@ -2,7 +2,7 @@
 --
 -- The kit proves a clause `ensures*`, which here says that the buffer is unchanged if there is no text, by itself only if the buffer is the first parameter and
 -- a struct or of a generic type. Here it is the second one, and an array. So this proof walks through the compiled body, a call of `write` and
--- one of `text_from_len`, in the kit's separation logic. What is held at a point, such as a reference, the token of a lifetime or a known fact, is
+-- one of `text_if_any`, in the kit's separation logic. What is held at a point, such as a reference, the token of a lifetime or a known fact, is
 -- a list. A comment in brackets shows it, and `move` and `keep` choose from it by position.
 --
 --  1. `self`, `buf` and the tokens of their lifetimes are taken apart, and the body is entered (`enter`).
@@ -10,14 +10,14 @@
 --  3. `write` is called by its contract `G` (`calls_at`). `heard` names each fact that it ensures.
 --  4. α ends, and `buf` is back (`comes_back`), with the last bytes `y`.
 --  5. `buf` is shared for the rest of its own lifetime (`ref_Share`), so that the result may borrow from it.
---  6. `text_from_len` is called by its contract `H`, whose two requirements follow from what was heard.
+--  6. `text_if_any` is called by its contract `H`, whose two requirements follow from what was heard.
 --  7. The body returns (`returns`), and the clauses of `text` follow (`ends_at`): all but the last as facts, and the last by `holds`, from
 --     the last bytes of `buf`.
 --
--- A change of the body, or of a clause of `write` or `text_from_len`, changes the steps above that name it: `rt check` then stops at the first
+-- A change of the body, or of a clause of `write` or `text_if_any`, changes the steps above that name it: `rt check` then stops at the first
 -- step that does not fit, and prints what is held there, which is to be compared with the list in brackets before it. A new version of the kit may
 -- rename or change what comes from its libraries `base`, `borrow`, `contract`, `denote`, `mir`, `seplogic` and `types`, also by way of
--- `proofs/Walks.antt`, or hand over the resources in another order.
+-- `proofs/StandardFacts.antt`, or hand over the resources in another order.
 use Rattle.std.proofs.lemmas.Grind.{common_steps}
 use Rattle.std.proofs.lemmas.Str.{IsUtf8-from_ascii}
 use Rattle.std.specs.Str.{IsUtf8}
@@ -49,8 +49,8 @@ use Rattle.humantime.proofs.date.print.Rfc3339Timestamp.text.Code as code
 use Rattle.humantime.proofs.date.print.Rfc3339Timestamp.text.Lts as lts
 use Rattle.humantime.specs.contracts.date.print.Rfc3339Timestamp.write as g
 use Rattle.humantime.proofs.date.print.Rfc3339Timestamp.write.Met as g-met
-use Rattle.humantime.specs.contracts.date.print.text_from_len as h
-use Rattle.humantime.proofs.date.print.text_from_len.Met as h-met
+use Rattle.humantime.specs.contracts.date.print.text_if_any as h
+use Rattle.humantime.proofs.date.print.text_if_any.Met as h-met
 
 pub text_spec : {M : Type 1} → statement M
 text_spec {M} 𝓤 𝓛 𝓜 𝓡 wired =
@@ -114,7 +114,7 @@ text_spec {M} 𝓤 𝓛 𝓜 𝓡 wired =
     nothing ! $ move ! (2 ∷ 0 ∷ []) $ join ! $ move ! (1 ∷ 0 ∷ []) $ join ! $ nothing ! $ move ! (2 ∷ 0 ∷ []) $ join ! $ join ! $
     use0 𝓛 (raw (fact 𝓤 (IfSome m (λ n. IsUtf8 (take n y))))) (fact_i 𝓤 _ (emp 𝓤) (grind (arith, common_steps, text, printed_ascii, IsUtf8-from_ascii))) $
     use0 𝓛 (raw (fact 𝓤 (IfSome m (λ n. n ≤ 30)))) (fact_i 𝓤 _ (emp 𝓤) fits) $ join ! $ move ! (1 ∷ 0 ∷ []) $ use2 𝓛 (raw (H.pre z')) (id⊢ 𝓤 _) $
-    calls_at ! (framed 𝓤 𝓛.H 𝓜 (tables 𝓤 𝓛.H 𝓜 𝓡 𝓡.env)) H (h-met.met 𝓤 𝓛 𝓜 𝓡 (code.calls-humantime::date::print::text_from_len 𝓡.env wired)) z'
+    calls_at ! (framed 𝓤 𝓛.H 𝓜 (tables 𝓤 𝓛.H 𝓜 𝓡 𝓡.env)) H (h-met.met 𝓤 𝓛 𝓜 𝓡 (code.calls-humantime::date::print::text_if_any 𝓡.env wired)) z'
     (and_then ! (get ! refl) (and_then ! (get ! refl) (no_more !))) (λ w.
     use1 𝓛 (later (some (λ (t : Option (Bor (List ℕ))). ((‵ (flft κ q) ⊛ ‵ ftrue) ⊛ ‵ (Res.own_val t (w ∷ []))) ⊛
     some (λ (ws' : Unit {0} × (Unit {0} × Unit {0})). ‵ (lasts h.ended z'.0.0 z'.0.3 ws') ⊛ raw (fact 𝓤 (option_map (λ u. u.now) t ≡ option_map (λ n. take n y) m)))))) (id⊢ 𝓤 _) $

@@ -1,7 +1,7 @@
 use Rattle.std.proofs.Common.{refl}
 use Rattle.std.specs.Prelude.{Some, Err}
 use Rattle.humantime_cli.proofs.EndsLemmas.{to_out, to_err}
-use Rattle.humantime_cli.proofs.command.answer.Goals as goal
+use Rattle.humantime_cli.proofs.command.write_answer.Goals as goal
 
 pub returns-in-Ok : goal.returns-in-Ok
 returns-in-Ok g c = rw c.in-Ok.is (to_out _ _ c.write_line.ensures c.and.ensures c.unwrap_or.ensures)
