@@ -12,7 +12,7 @@ use Rattle.humantime.specs.DurationErrors.{IsCharStartIn, IsRangeIn, IsPartOf, m
 use Rattle.humantime.specs.Characters.{begins, drop_while, take_while, is_letter, is_whitespace, whitespace_chars, is_digit, byte_length, offset_of}
 use Rattle.humantime.specs.StepsOfCalls.{after_space}
 use Rattle.humantime.specs.StepsOfParts.{whitespace_len, IsTail, begins_with_nonletter}
-use Rattle.humantime.proofs.Characters.{digit_not_whitespace, letter_not_whitespace, whitespace_is_numeric, take_while-drop_while, low_whitespace, no_whitespace_between}
+use Rattle.humantime.proofs.Characters.{letter_not_whitespace, whitespace_is_numeric, take_while-drop_while, low_whitespace, no_whitespace_between}
 
 -- ==== Offsets in a text, and the characters at them.
 
@@ -67,10 +67,6 @@ whitespace_over text at next u here some n = let c = char_at text at u here in g
 
 pub no_whitespace : (cs : List ℕ) → ¬ (0 < whitespace_len cs) → begins is_whitespace cs ≡ false
 no_whitespace cs none = grind (arith, len_utf8_bounds)
-
--- A text that begins with a digit has no leading whitespace.
-pub digit_stays : (cs : List ℕ) → begins is_digit cs ≡ true → cs ≡ drop_while is_whitespace cs
-digit_stays cs d = grind (arith, digit_not_whitespace)
 
 -- ---- letters
 
@@ -165,9 +161,6 @@ pub front_read : (p : ℕ → Bool) (text rest front : List ℕ) → IsTail text
 front_read p text rest front t e f =
     grind (arith, common_steps, t.ends, (front_is p text (length text - length rest) t.whole (tail_boundary text rest t)))
 
-pub front_chars : (text rest front : List ℕ) → IsTail text rest → IsUtf8 front → front ≡ slice_range text 0 (length text - length rest) → chars text ≡ chars front ++ chars rest
-front_chars text rest front t u f = grind (arith, common_steps, (tail_whole text rest t), (chars-append front rest u))
-
 -- A text without characters has no bytes, and one without bytes no characters.
 pub some_chars : (bs : List ℕ) → IsUtf8 bs → length bs ≢ 0 → chars bs ≢ []
 some_chars bs u n e = n (grind (arith, encodes-chars, ap byte_length e))
@@ -192,7 +185,7 @@ word_begins text at u place rest =
 pub ruleset rests = (slice_tail, whole_tail, no_bytes, some_chars, no_chars_at, IsCharBoundary-start)
 
 -- The first character of a text.
-pub ruleset first = (rests, char_at, digit_at, digit_stays, cases_lt, ne_eqb, common_steps, nat_tests)
+pub ruleset first = (rests, char_at, digit_at, cases_lt, ne_eqb, common_steps, nat_tests)
 
 -- Whitespace at an offset.
 pub ruleset whitespace_at = (ascii_at, no_whitespace_at_mu, low_whitespace, no_whitespace_between, common_steps, nat_tests)
@@ -201,4 +194,4 @@ pub ruleset whitespace_at = (ascii_at, no_whitespace_at_mu, low_whitespace, no_w
 pub ruleset span_ends = (rests, space_ends, whitespace_ends, len_utf8_bounds, common_steps)
 
 -- The offset of a rest in its text, in bytes.
-pub ruleset offsets = (some_chars, tail_place, tail_tail, whole_tail)
+pub ruleset offsets = (some_chars, tail_boundary, tail_place, tail_tail, whole_tail)

@@ -8,19 +8,18 @@ use Rattle.std.proofs.lemmas.Bool.Decides.{nat_tests}
 use Rattle.std.proofs.lemmas.Bool.{ne_eqb}
 use Rattle.std.proofs.lemmas.Nat.{pow-add}
 use Rattle.std.proofs.Math.Nat.{one-le-pow, pow-le-pow_right, mul-le-mul_right}
-use Rattle.std.specs.Prelude.{◌==◌, unwrap_or}
-use Rattle.std.proofs.lemmas.List.{append_cancel_right}
+use Rattle.std.specs.Prelude.{◌==◌}
 use Rattle.std.specs.Str.{drop_trailing_whitespace}
 use Rattle.humantime.specs.Characters.{begins, decimal_value, drop_while, take_while, is_digit, is_numeric, is_letter, offset_of}
 use Rattle.humantime.specs.DurationErrors.{number_of, after_number, after_point, after_fraction, fraction_of, word_of, after_word, span_of, UnknownUnit, IsCharStartIn}
-use Rattle.humantime.specs.StepsOfParts.{whitespace_len, HasDigits, begins_with_nonletter, Counted, counted, parts_of}
-use Rattle.humantime.specs.declared.duration.amount.Fraction.{Fraction}
+use Rattle.humantime.specs.StepsOfParts.{whitespace_len, HasDigits, begins_with_nonletter, Counted, counted, numbers_in}
+use Rattle.humantime.specs.declared.duration.digits.Fraction.{Fraction}
 use Rattle.humantime.specs.Durations.{is_some_and, too_long, Scale, scale_of_word}
 use Rattle.humantime.specs.DurationResults.{trimmed, view_at}
 use Rattle.humantime.specs.Walks.{stop_at}
 use Rattle.humantime.specs.StepsOfCalls.{HasRead, skip_word, skip_span_end, read_span}
 use Rattle.humantime.proofs.Offsets.{digit_at, whitespace_over, no_whitespace, ascii_at, no_bytes, tail_boundary, tail_tail}
-use Rattle.humantime.proofs.Characters.{digit_is, digit_is_numeric, whitespace_is_numeric, whitespace_not_digit, wide_no_digit, digits_value-append, significant_shorter, significant_last, significant_zero, value_shifted, take_while-drop_while, significant_long}
+use Rattle.humantime.proofs.Characters.{digit_is, digit_is_numeric, whitespace_is_numeric, whitespace_not_digit, wide_no_digit, digits_value-append, significant_shorter, significant_last, significant_zero, value_shifted, significant_long}
 
 -- ==== Parsing the digits at the start of a text, one by one.
 
@@ -106,18 +105,11 @@ pub no_letters : (cs : List ℕ) → begins_with_nonletter cs ≡ true → drop_
 no_letters cs other = grind (arith, common_steps, nat_tests)
 
 -- The slices that were parsed are those of the view of the span.
-pub view_read : (text rest number word : List ℕ) (digits : Option (Bor (List ℕ))) (start end value : ℕ)
-    → number ≡ take_while is_numeric rest → option_map (λ t. chars t.now) digits ≡ option_map (take_while is_numeric) (after_point (after_number rest))
+pub view_read : (text rest number word : List ℕ) (fraction : Option (Fraction × Bor (List ℕ))) (start end value : ℕ)
+    → number ≡ take_while is_numeric rest → option_map (λ f. chars f.1.now) fraction ≡ option_map (take_while is_numeric) (after_point (after_number rest))
     → word ≡ word_of rest → start ≡ offset_of text rest → end ≡ offset_of text (after_word rest) → value ≡ decimal_value (number_of rest)
-    → record { number = drop_trailing_whitespace number; fraction = option_map (λ t. trimmed (chars t.now)) digits; unit = word; start = start; end = end; value = value } ≡ view_at text rest
-view_read text rest number word digits start end value n d w p q v = grind arith
-
--- The digits of the slice between a number and the word after it.
-pub fraction_digits : (cs slice after : List ℕ) → cs ≡ slice ++ after → after ≡ unwrap_or (option_map after_number (after_point cs)) cs
-    → after_point slice ≡ option_map (take_while is_numeric) (after_point cs)
-fraction_digits [] slice after e f = grind (arith, common_steps)
-fraction_digits (c ∷ cs) slice after e f =
-    grind (arith, common_steps, (append_cancel_right slice [] after), (append_cancel_right slice (c ∷ take_while is_numeric cs) after), (take_while-drop_while is_numeric cs))
+    → record { number = drop_trailing_whitespace number; fraction = option_map (λ f. trimmed (chars f.1.now)) fraction; unit = word; start = start; end = end; value = value } ≡ view_at text rest
+view_read text rest number word fraction start end value n d w p q v = grind arith
 
 pub word_read : (word next : List ℕ) → Some next ≡ skip_word word → next ≡ drop_while is_letter word
 word_read word next w = grind (arith, common_steps)
@@ -126,8 +118,8 @@ word_read word next w = grind (arith, common_steps)
 abbrev pub is_bare : Option Counted → Bool
 is_bare fraction = is_some_and (λ x. x.2 == 0) fraction
 
-pub exit_unit : {rest after word : List ℕ} {value : ℕ} {fraction : Option Fraction} (text next end : List ℕ) → HasRead rest value after fraction word → Some next ≡ skip_word (chars word)
-    → scale_of_word (take_while is_letter (chars word)) ≡ None → is_bare (option_map parts_of fraction) ≡ false → Some end ≡ skip_span_end next
+pub exit_unit : {rest after word : List ℕ} {value : ℕ} {fraction : Option (Fraction × Bor (List ℕ))} (text next end : List ℕ) → HasRead rest value after fraction word → Some next ≡ skip_word (chars word)
+    → scale_of_word (take_while is_letter (chars word)) ≡ None → is_bare (numbers_in fraction) ≡ false → Some end ≡ skip_span_end next
     → Err (UnknownUnit (offset_of text (chars word)) (offset_of text next) (encode_utf8_all (take_while is_letter (chars word))) value) ≡ read_span text (chars rest)
 unfolding stop_at
 exit_unit text next end b w none bare e = grind (arith, common_steps)

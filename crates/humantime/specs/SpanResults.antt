@@ -14,11 +14,11 @@ use Rattle.humantime.specs.DurationResults.{left_at, trimmed}
 abbrev pub span_view : Span → SpanView
 span_view s = record {
   number = drop_trailing_whitespace (chars s.number.now);
-  fraction = option_map (λ t. trimmed (chars t.now)) s.fraction;
+  fraction = option_map (λ f. trimmed (chars f.1.now)) s.fraction;
   unit = chars s.unit.now;
   start = s.start;
   end = s.end;
-  value = s.amount.value;
+  value = s.value;
 }
 
 -- The view of an item: that of its span, or the fault of its error.

@@ -4,17 +4,17 @@ use Rattle.std.specs.Borrow.{Bor}
 use Rattle.std.specs.Result.{result_map_both}
 use Rattle.std.specs.Str.{all_ascii_digits, byte}
 use Rattle.std.specs.List.{join_with_byte}
-use Rattle.humantime.specs.declared.duration.amount.Fraction.{Fraction}
+use Rattle.humantime.specs.declared.duration.digits.Fraction.{Fraction}
 use Rattle.humantime.specs.declared.duration.error.DurationError.{DurationError}
 use Rattle.humantime.specs.declared.duration.span.Span.{Span}
-use Rattle.humantime.specs.Characters.{begins, drop_while, decimal_value, is_digit, is_whitespace, is_letter, u64_max}
-use Rattle.humantime.specs.Durations.{has_too_many_digits, too_long, Quantity, size, of_kind, times, fits_u64, is_whole_part}
-use Rattle.humantime.specs.DurationErrors.{fault_of, number_of, after_number, fraction_of, after_fraction, after_word, span_of, may_follow_span, Fault}
+use Rattle.humantime.specs.Characters.{begins, take_while, drop_while, decimal_value, is_digit, is_numeric, is_whitespace, is_letter, u64_max}
+use Rattle.humantime.specs.Durations.{SpelledSpan, has_too_many_digits, too_long, Quantity, size, of_kind, times, fits_u64, is_whole_part}
+use Rattle.humantime.specs.DurationErrors.{fault_of, number_of, after_number, fraction_of, after_point, after_fraction, after_word, span_of, may_follow_span, Fault}
 use Rattle.humantime.specs.Items.{SpanView}
-use Rattle.humantime.specs.DurationResults.{view_at}
+use Rattle.humantime.specs.DurationResults.{spelled, view_at}
 use Rattle.humantime.specs.SpanResults.{span_view}
 use Rattle.humantime.specs.Walks.{fault_at, add}
-use Rattle.humantime.specs.StepsOfParts.{Counted, counted, parts_of, IsTail, begins_with_nonletter}
+use Rattle.humantime.specs.StepsOfParts.{Counted, counted, numbers_in, IsTail, begins_with_nonletter}
 use Rattle.humantime.specs.declared.calendar.Date.{Date}
 use Rattle.humantime.specs.declared.date.error.TimestampError.{TimestampError}
 use Rattle.humantime.specs.declared.date.error.TimestampError.TheVariants.{InvalidDigit, InvalidFormat}
@@ -64,17 +64,22 @@ read_span text rest = elim (fault_at text rest) [
 abbrev pub span_result : Result (Span × Bor (List ℕ)) DurationError → Result (SpanView × List ℕ) Fault
 span_result r = result_map_both (λ x. (span_view x.0, chars x.1.now)) fault_of r
 
--- The number at the start of `rest` and its fraction, if any, were read, and neither is too long: these are their values, each before the
--- text that follows it.
-pub record HasRead (rest : List ℕ) (value : ℕ) (after_value : List ℕ) (decimals : Option Fraction) (after_decimals : List ℕ) : Type 0 where
+-- Returns the span that the slices of a `Span` hold.
+abbrev pub spelled_in : Span → SpelledSpan
+spelled_in s = let x = span_view s in spelled x.number x.fraction x.unit
+
+-- The number at the start of `rest` and its fraction, if any, were read, and neither is too long: these are their values, that of the
+-- fraction with its slice, each before the text that follows it.
+pub record HasRead (rest : List ℕ) (value : ℕ) (after_value : List ℕ) (fraction : Option (Fraction × Bor (List ℕ))) (after_digits : List ℕ) : Type 0 where
   pub digit : begins is_digit (chars rest) ≡ true
   pub short : too_long (span_of (chars rest)) ≡ false
   pub value_is : value ≡ decimal_value (number_of (chars rest))
   pub after_value_is : chars after_value ≡ after_number (chars rest)
-  pub decimals_are : option_map parts_of decimals ≡ option_map counted (fraction_of (chars rest))
-  pub after_decimals_is : chars after_decimals ≡ after_fraction (chars rest)
+  pub fraction_is : numbers_in fraction ≡ option_map counted (fraction_of (chars rest))
+  pub digits_are : option_map (λ f. chars f.1.now) fraction ≡ option_map (take_while is_numeric) (after_point (after_number (chars rest)))
+  pub after_digits_is : chars after_digits ≡ after_fraction (chars rest)
   pub value_tail : IsTail rest after_value
-  pub decimals_tail : IsTail after_value after_decimals
+  pub digits_tail : IsTail rest after_digits
 
 -- ==== Quantities added to a duration of `t` nanoseconds. `None` means that a limit is broken.
 

@@ -1,16 +1,15 @@
--- Steps of the parser of durations: whitespace, digits, and what an amount keeps of its text.
-use Rattle.std.specs.Prelude.{◌≡◌, ℕ, List, length, Option, Some, option_map, chars, bytes_eq, ltb, not, filter, ◌≤◌, ◌<◌, ◌^◌, ◌-◌, ◌++◌, Bool, [], ◌∷◌, IfSome, IfNone, drop, if◌then◌else◌, IsUtf8, IsCharBoundary}
+-- Steps of the parser of durations: whitespace, digits, and what a span keeps of its text.
+use Rattle.std.specs.Prelude.{◌≡◌, ℕ, List, length, Option, Some, option_map, chars, bytes_eq, ltb, not, filter, ◌≤◌, ◌<◌, ◌^◌, ◌-◌, ◌++◌, Bool, [], ◌∷◌, IfSome, IfNone, SomeIff, ◌+◌, drop, if◌then◌else◌, IsUtf8, IsCharBoundary}
 use Rattle.std.specs.Borrow.{Bor}
 use Rattle.std.specs.Map.{lookup}
 use Rattle.std.specs.Str.{drop_trailing_whitespace}
 use Rattle.std.specs.Char.{len_utf8}
-use Rattle.humantime.specs.declared.duration.amount.Fraction.{Fraction}
-use Rattle.humantime.specs.declared.duration.amount.Amount.{Amount}
+use Rattle.humantime.specs.declared.duration.digits.Fraction.{Fraction}
 use Rattle.humantime.specs.Characters.{decimal_value, without_trailing_zeros, begins, drop_while, is_whitespace, is_letter, max_fraction_digits}
 use Rattle.humantime.specs.Durations.{Quantity, Nanos, Seconds, Scale, words, scale_of_word, SpelledSpan}
 use Rattle.humantime.specs.DurationResults.{spelled, trimmed}
 
--- ==== The digits and spans that the `Fraction` and `Amount` of the code represent.
+-- ==== The digits and spans that the `Fraction` and `Span` of the code represent.
 
 -- A fraction as three numbers: the value of its digits without trailing zeros, the number of these digits, and the number of all digits.
 abbrev pub Counted : Type 0
@@ -24,16 +23,21 @@ counted ds = (decimal_value (without_trailing_zeros ds), length (without_trailin
 abbrev pub parts_of : Fraction → Counted
 parts_of f = (f.significand, f.exponent, f.len)
 
--- The amount is the one that the span denotes.
-pub record IsAmountOf (a : Amount) (s : SpelledSpan) : Type 0 where
-  pub scale : scale_of_word s.word ≡ Some a.scale.now
-  pub value : a.value ≡ decimal_value s.number
-  pub fraction : option_map parts_of a.fraction ≡ option_map counted s.fraction
+-- Returns the three numbers of a fraction that was read with its slice.
+abbrev pub numbers_in : Option (Fraction × Bor (List ℕ)) → Option Counted
+numbers_in fraction = option_map (λ f. parts_of f.0) fraction
 
--- The amount is that of the span whose number, fraction and unit the slices hold, with whitespace after the number and around the fraction.
-abbrev pub IsAmountRead : Amount → List ℕ → Option (Bor (List ℕ)) → List ℕ → Type 0
-IsAmountRead a number fraction unit =
-    IsAmountOf a (spelled (drop_trailing_whitespace (chars number)) (option_map (λ f. trimmed (chars f.now)) fraction) (chars unit))
+-- These are the value, the fraction and the scale of the span.
+pub record IsAmountOf (s : SpelledSpan) (value : ℕ) (fraction : Option Counted) (scale : Scale) : Type 0 where
+  pub value_is : value ≡ decimal_value s.number
+  pub fraction_is : fraction ≡ option_map counted s.fraction
+  pub scale_is : scale_of_word s.word ≡ Some scale
+
+-- They are those of the span whose number, fraction and unit the slices hold, with whitespace after the number and around the fraction.
+abbrev pub IsAmountRead : List ℕ → ℕ → Option (Fraction × Bor (List ℕ)) → List ℕ → Scale → Type 0
+IsAmountRead number value fraction unit scale =
+    let digits = option_map (λ f. trimmed (chars f.1.now)) fraction in
+    IsAmountOf (spelled (drop_trailing_whitespace (chars number)) digits (chars unit)) value (numbers_in fraction) scale
 
 -- Returns the seconds of a quantity, or 0 for one of nanoseconds.
 abbrev whole_seconds : Quantity → ℕ
@@ -69,6 +73,10 @@ begins_with_nonletter text = begins (λ c. not (is_letter c)) text
 abbrev pub whitespace_len : List ℕ → ℕ
 whitespace_len [] = 0
 whitespace_len (c ∷ cs) = if is_whitespace c then len_utf8 c else 0
+
+-- The result is the offset after the whitespace character at offset `at`, or `None` if there is none.
+abbrev pub IsAfterWhitespace : List ℕ → ℕ → Option ℕ → Type 0
+IsAfterWhitespace text at result = SomeIff result (0 < whitespace_len (chars (drop at text))) (at + whitespace_len (chars (drop at text)))
 
 -- The fraction has these digits, at most 19 of them before the trailing zeros.
 pub record HasDigits (f : Fraction) (ds : List ℕ) : Type 0 where

@@ -1,9 +1,9 @@
 //! Parses and prints durations such as `2h 37m`.
 //!
-//! The modules, each after those that it uses: `error`, `amount` (what a span adds), `span`, `scan` (which reads one), `iter` (all spans),
-//! `parse` (a whole string) and `print`.
+//! The modules, each after those that it uses: `error`, `digits` (of numbers), `span`, `scan` (which reads one), `iter` (all spans), `parse`
+//! (a whole string) and `print`.
 
-mod amount;
+mod digits;
 mod error;
 mod iter;
 mod parse;

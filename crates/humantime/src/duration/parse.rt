@@ -2,16 +2,16 @@
 
 ghost use Rattle.std.specs.Prelude.{◌≡◌, ◌≤◌, ◌*◌, ◌/◌, ◌^◌, IsTrue, SomeIff, chars, map, IfErr};
 ghost use Rattle.humantime.specs.Characters.{max_fraction_digits, u64_max};
-ghost use Rattle.humantime.specs.Durations.{is_whole_part, SpelledSpan};
+ghost use Rattle.humantime.specs.Durations.{is_whole_part};
 ghost use Rattle.humantime.specs.StepsOfCalls as steps;
 ghost use Rattle.humantime.specs.Walks.{add_span, sum_spans};
-ghost use Rattle.humantime.specs.StepsOfParts.{IsAmountOf};
 ghost use Rattle.humantime.specs.Prelude.{AreItems, IsDurationAnswer, PointsInto, items_left, result_view, text_of};
 ghost use Rattle.humantime.specs.DurationResults.{item_views, span_in};
 
-use crate::duration::amount::{Amount, Fraction, power_of_ten};
+use crate::duration::digits::{Fraction, power_of_ten};
 use crate::duration::error::DurationError;
 use crate::duration::iter::SpanIter;
+use crate::duration::span::Span;
 use crate::unit::Quantity;
 use crate::value::StdDuration;
 
@@ -55,16 +55,15 @@ fn add_part(sum: StdDuration, one: Option<Quantity>, fraction: Fraction) -> Opti
 /// whole number of nanoseconds or of seconds.
 #[inline(always)]
 #[tactic(auto, unfolding(crate::specs::Walks::add_all, crate::specs::Walks::add_span))]
-fn add_amount(total: StdDuration, amount: Amount) -> Option<StdDuration>
-    ensures { (s : SpelledSpan) → IsAmountOf amount s → result ≡ add_span total s }
+fn add_amount(total: StdDuration, span: Span) -> Option<StdDuration>
+    ensures { result ≡ add_span total (steps.spelled_in span.entry) }
 {
-    let (count, scale) = (amount.value, amount.scale);
-    // `add_times` is called in both arms, so that `amount.fraction` is tested once.
-    match amount.fraction {
-        None => add_times(total, scale.whole, count),
-        Some(fraction) => {
-            let sum = add_times(total, scale.whole, count)?;
-            add_part(sum, scale.part, fraction)
+    // `add_times` is called in both arms, so that `span.fraction` is tested once.
+    match span.fraction {
+        None => add_times(total, span.scale.whole, span.value),
+        Some((fraction, _)) => {
+            let sum = add_times(total, span.scale.whole, span.value)?;
+            add_part(sum, span.scale.part, fraction)
         }
     }
 }
@@ -118,7 +117,7 @@ fn sum_of<'a>(text: &'a str) -> Result<StdDuration, DurationError<'a>>
     while let Some(item) = items.next() {
         // `match` and not `?`: for `?`, the kit's own back end emits a call that copies the error.
         match item {
-            Ok(span) => match add_amount(total, span.amount) {
+            Ok(span) => match add_amount(total, span) {
                 Some(sum) => total = sum,
                 None => return Err(DurationError::NumberOverflow),
             },

@@ -3,15 +3,15 @@
 //! A `read_..` function returns a value and the rest of the string, a `skip_..` function only the rest, or the next offset if it takes one.
 //! In contracts, `IsTail text rest` says that `rest` is the end of `text`.
 
-ghost use Rattle.std.specs.Prelude.{◌≡◌, ◌==◌, ◌+◌, ◌<◌, ◌&&◌, ◌||◌, true, drop, chars, option_map, IfSome, SomeIff, IsCharBoundary, ◌≢◌};
+ghost use Rattle.std.specs.Prelude.{◌≡◌, ◌==◌, ◌+◌, ◌<◌, ◌&&◌, ◌||◌, true, chars, option_map, IfSome, IsCharBoundary, ◌≢◌};
 ghost use Rattle.std.specs.Prelude.{IfOk, MatchResult, length};
 ghost use Rattle.humantime.specs.Characters.{begins, drop_while, is_digit, is_whitespace, offset_of};
 ghost use Rattle.humantime.specs.DurationErrors.{IsCharStartIn, after_point, IsRangeIn, PointsInto};
 ghost use Rattle.humantime.specs.StepsOfCalls as reader;
 ghost use Rattle.humantime.specs.StepsOfCalls.{read_view, HasRead, span_result};
-ghost use Rattle.humantime.specs.StepsOfParts.{parts_of, IsTail, SkipsWhitespace, whitespace_len};
+ghost use Rattle.humantime.specs.StepsOfParts.{parts_of, IsAfterWhitespace, IsTail, SkipsWhitespace};
 
-use crate::duration::amount::{Amount, Fraction, push_digit};
+use crate::duration::digits::{Fraction, push_digit};
 use crate::duration::error::DurationError;
 use crate::duration::span::Span;
 use crate::unit::scale_of;
@@ -35,7 +35,7 @@ fn is_mu(first: u8, second: u8) -> bool
 #[inline(never)]
 fn skip_non_ascii_whitespace(text: &str, at: usize) -> Option<usize>
     requires { IsCharStartIn text.now at }
-    ensures { SomeIff result (0 < whitespace_len (chars (drop at text.now))) (at + whitespace_len (chars (drop at text.now))) }
+    ensures { IsAfterWhitespace text.now at result }
 {
     let c = text[at..].chars().next()?;
     c.is_whitespace().then_some(at + c.len_utf8())
@@ -48,7 +48,7 @@ fn skip_non_ascii_whitespace(text: &str, at: usize) -> Option<usize>
 #[tactic(auto, using(crate::proofs::Offsets::whitespace_at))]
 pub(crate) fn skip_whitespace_char(text: &str, at: usize) -> Option<usize>
     requires { IsCharStartIn text.now at }
-    ensures { SomeIff result (0 < whitespace_len (chars (drop at text.now))) (at + whitespace_len (chars (drop at text.now))) }
+    ensures { IsAfterWhitespace text.now at result }
 {
     let bytes = text.as_bytes();
     // The byte is usually an ASCII letter. No character from `!` to U+007F is whitespace.
@@ -91,10 +91,6 @@ pub(crate) fn skip_whitespace(text: &str) -> &str
     ensures read { chars result.now ≡ drop_while is_whitespace (chars text.now) }
     ensures rest { IsTail text.now result.now }
 {
-    // Usually a digit is first, because `skip_span_end` has skipped the space before it.
-    if begins_with_digit(text) {
-        return text;
-    }
     let mut at = 0;
     while at < text.len()
         && let Some(next) = skip_whitespace_char(text, at)
@@ -266,7 +262,9 @@ pub(crate) fn read_span<'a>(text: &'a str, rest: &'a str) -> ReadSpan<'a>
     let Some((fraction, after_fraction)) = read_fraction(after_point) else {
         return Err(DurationError::NumberOverflow);
     };
-    complete_span(text, rest, value, after_number, Some(fraction), after_fraction)
+    let digits = &after_point[..after_point.len() - after_fraction.len()];
+    let fraction = Some((fraction, digits));
+    complete_span(text, rest, value, after_number, fraction, after_fraction)
 }
 
 /// Reads the unit after a number and its fraction, if any, and returns the result of [`read_span`]. The value and the fraction were read from
@@ -278,7 +276,7 @@ fn complete_span<'a>(
     rest: &'a str,
     value: u64,
     after_number: &'a str,
-    fraction: Option<Fraction>,
+    fraction: Option<(Fraction, &'a str)>,
     after_fraction: &'a str,
 ) -> ReadSpan<'a>
     requires tail { IsTail text.now rest.now }
@@ -291,7 +289,7 @@ fn complete_span<'a>(
         return Err(DurationError::InvalidCharacter(offset_in(text, after_fraction)));
     };
     // The error of `1.~` is at the `~`, but that of `1.s~` and of `1.` at the point. So this is tested after `skip_word`.
-    if fraction.is_some_and(|fraction| fraction.len == 0) {
+    if fraction.is_some_and(|(digits, _)| digits.len == 0) {
         return Err(DurationError::InvalidCharacter(offset_in(text, after_number)));
     }
     // `1foo~` is wrong at the `~`, so what follows the word is tested before the word.
@@ -309,18 +307,14 @@ fn complete_span<'a>(
         });
     };
     let span = Span {
-        // Both slices have the whitespace around the digits, which the methods of `Span` trim. Without a point, the second is empty, and
-        // `skip_point` returns `None`.
+        // The methods of `Span` trim this slice and that of the fraction.
         number: &rest[..rest.len() - after_number.len()],
-        fraction: skip_point(&after_number[..after_number.len() - after_fraction.len()]),
+        value,
+        fraction,
         unit,
+        scale,
         start: offset_in(text, rest),
         end,
-        amount: Amount {
-            value,
-            fraction,
-            scale,
-        },
     };
     Ok((span, after_span))
 }

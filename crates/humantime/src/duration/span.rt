@@ -1,9 +1,12 @@
 //! [`Span`]: a number with its fraction, if any, and its unit, as read from a string.
 
-ghost use Rattle.std.specs.Prelude.{◌≡◌, option_map, chars};
+ghost use Rattle.std.specs.Prelude.{◌≡◌, ◌≤◌, option_map, chars};
+ghost use Rattle.std.specs.Option.{ForSome};
+ghost use Rattle.humantime.specs.Characters.{max_fraction_digits};
 ghost use Rattle.humantime.specs.StepsOfParts.{IsAmountRead};
 
-use crate::duration::amount::Amount;
+use crate::duration::digits::Fraction;
+use crate::unit::Scale;
 
 /// A number with its fraction, if any, and its unit, borrowed from a string.
 ///
@@ -23,15 +26,17 @@ use crate::duration::amount::Amount;
 /// ```
 #[derive(Clone, Copy, Debug)]
 pub struct Span<'a> {
-    // The digits of the number, with the whitespace between and after them.
+    /// The digits of the number, with the whitespace between and after them.
     pub(crate) number: &'a str,
-    // The digits of the fraction, with the whitespace around them, or `None` if there is no point.
-    pub(crate) fraction: Option<&'a str>,
+    pub(crate) value: u64,
+    /// The fraction and its digits, with the whitespace around them, or `None` if there is no point.
+    pub(crate) fraction: Option<(Fraction, &'a str)>,
     pub(crate) unit: &'a str,
+    pub(crate) scale: &'static Scale,
     pub(crate) start: usize,
     pub(crate) end: usize,
-    pub(crate) amount: Amount,
-    ghost read: { IsAmountRead amount number.now fraction unit.now },
+    ghost few: { ForSome fraction (λ f. f.0.exponent ≤ max_fraction_digits) },
+    ghost read: { IsAmountRead number.now value fraction unit.now scale.now },
 }
 
 impl<'a> Span<'a> {
@@ -72,7 +77,7 @@ impl<'a> Span<'a> {
     pub fn fraction(&self) -> Option<&'a str>
         ensures { option_map (λ t. chars t.now) result ≡ (span_view self.now).fraction }
     {
-        Some(self.fraction?.trim_start().trim_end())
+        Some(self.fraction?.1.trim_start().trim_end())
     }
 
     /// Returns the unit as written in the string.
@@ -136,6 +141,6 @@ impl<'a> Span<'a> {
     pub fn value(&self) -> u64
         ensures { result ≡ (span_view self.now).value }
     {
-        self.amount.value
+        self.value
     }
 }

@@ -1,10 +1,7 @@
-//! [`Amount`], what a span adds to a duration, and the arithmetic that builds its number and its [`Fraction`] digit by digit.
+//! The arithmetic that builds the number of a span and its [`Fraction`] digit by digit.
 
 ghost use Rattle.std.specs.Prelude.{◌≡◌, ℕ, List, true, SomeIff, ◌+◌, ◌-◌, ◌*◌, ◌^◌, ◌≤◌, ◌<◌};
-ghost use Rattle.std.specs.Option.{ForSome};
 ghost use Rattle.humantime.specs.Characters.{is_digit, max_fraction_digits, u64_max};
-
-use crate::unit::Scale;
 
 /// The maximum number of digits in a fraction before its trailing zeros. Any number of so many digits fits in a `u64`.
 const MAX_FRACTION_DIGITS: usize = 19;
@@ -42,15 +39,6 @@ pub(crate) struct Fraction {
     pub exponent: usize,
     /// The number of digits, trailing zeros included.
     pub len: usize,
-}
-
-/// What a span adds to a duration: its number `value`, its fraction (`None` without a point) and the size of its unit.
-#[derive(Clone, Copy, Debug)]
-pub(crate) struct Amount {
-    pub value: u64,
-    pub fraction: Option<Fraction>,
-    pub scale: &'static Scale,
-    ghost few: { ForSome fraction (λ f. f.exponent ≤ max_fraction_digits) },
 }
 
 /// Returns `value * 10 + digit`, or `None` on overflow.

@@ -1,6 +1,6 @@
 use Rattle.std.proofs.Common.{arith}
 use Rattle.humantime.proofs.SpanParts.{digits_fit, fraction_extended}
-use Rattle.humantime.proofs.duration.amount.Fraction.push.Goals as goal
+use Rattle.humantime.proofs.duration.digits.Fraction.push.Goals as goal
 
 pub overflow_mul-significand : goal.overflow_mul-significand
 overflow_mul-significand c =
