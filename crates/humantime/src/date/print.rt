@@ -270,7 +270,6 @@ impl Rfc3339Timestamp {
         }
         write_two_digits(buf, 26, nanos / 10 % 100);
         buf[28] = b'0' + (nanos % 10) as u8;
-        buf[29] = b'Z';
         30
     }
 }
@@ -314,8 +313,8 @@ fn date_and_time(time: SystemTime) -> Option<(Date, u32)>
     Some((date, (secs % SECONDS_PER_DAY) as u32))
 }
 
-/// Fills the buffer with the date, `T`, the time of day and `.nnnnnnnnnz`. Small letters stand for what is written over them: the caller
-/// writes a `Z` over the point, or digits and a `Z` after it.
+/// Fills the buffer with the date, `T`, the time of day and `.000000000Z`, over which the caller writes the digits of the fraction. Unless
+/// there are nine, it writes a `Z` after them.
 ///
 /// The contract passes 0 nanoseconds and 0 digits to `printed_fields`: the text before the point does not depend on them.
 #[inline(always)]
@@ -323,9 +322,9 @@ fn date_and_time(time: SystemTime) -> Option<(Date, u32)>
 fn write_date_time(date: Date, second_of_day: u32, buf: &mut [u8; 30])
     requires date { IsDate date }
     requires time { second_of_day < 86_400 }
-    ensures { buf.new ≡ date_time_text (printed_fields date second_of_day 0 0) ++ codes ".nnnnnnnnnz" }
+    ensures { buf.new ≡ date_time_text (printed_fields date second_of_day 0 0) ++ codes ".000000000Z" }
 {
-    *buf = *b"yyyy-mm-ddThh:mm:ss.nnnnnnnnnz";
+    *buf = *b"0000-00-00T00:00:00.000000000Z";
     write_two_digits(buf, 0, date.year / 100);
     write_two_digits(buf, 2, date.year % 100);
     write_two_digits(buf, 5, date.month);
