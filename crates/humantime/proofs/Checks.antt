@@ -18,8 +18,7 @@ use lib.Lanes.{zip2, mask_l, top, sel_l, dots, all_below, pair_sums, products}
 use mir.Val.{bits, hbits}
 use lib.Dec.{T}
 use Rattle.humantime.specs.StepsOfCalls.{has_layout}
-use Rattle.humantime.specs.Timestamps.{Letter_T, Space, Fields, fraction_digits, has_two, has_punctuation, has_digits, date_time_of, is_valid_date_time, zone_of, fraction_part, has_point, weak_checks, first_failed, has_separator}
-use Rattle.humantime.specs.declared.date.parse.DateTime.{DateTime}
+use Rattle.humantime.specs.Timestamps.{DateAndTime, Letter_T, Space, Fields, fraction_digits, has_two, has_punctuation, has_digits, date_time_of, is_valid_date_time, zone_of, fraction_part, has_point, weak_checks, first_failed, has_separator}
 use Rattle.humantime.proofs.TimestampParts.{has_two_from_test, number_of_two, number_of_four}
 
 -- ==== The meaning of each check on a timestamp.
@@ -173,7 +172,7 @@ pub sums_fit : (bytes : List ℕ) → 19 ≤ length bytes → T (all_below 32768
 sums_fit bytes long = (grind (arith, common_steps, nat_tests), grind (arith, common_steps, nat_tests))
 
 -- The numbers, by the sums over the first 16 bytes and over those from byte 3 on.
-abbrev summed : List ℕ → DateTime
+abbrev summed : List ℕ → DateAndTime
 summed bytes =
     let front = slice_index (dots (zip2 above (take 16 bytes) least) front_weights) in
     let back = slice_index (dots (zip2 above (take 16 (drop 3 bytes)) least_back) back_weights) in

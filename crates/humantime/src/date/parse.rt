@@ -1,13 +1,13 @@
 //! Parses timestamps: [`parse_rfc3339`] in the strict format, and [`parse_rfc3339_weak`] in the weak format.
 
-ghost use Rattle.std.specs.Prelude.{◌≡◌, ◌^◌, ◌<◌, ◌≤◌, ◌↔◌, length, false, IsTrue, IfSome, SomeIff, Ok, Err, Some, ℤ};
+ghost use Rattle.std.specs.Prelude.{◌≡◌, ◌^◌, ◌<◌, ◌≤◌, ◌↔◌, length, false, IsTrue, IfSome, SomeIff, option_map, Ok, Err, Some, ℤ};
 ghost use Rattle.std.specs.Char.{is_ascii_digit};
 ghost use Rattle.std.specs.List.{list_all};
 ghost use Rattle.humantime.specs.declared.date.error.TimestampError.{TimestampError};
 ghost use Rattle.humantime.specs.Prelude.{IsWeakMoment, IsStrictMoment, first_failed, weak_checks, strict_checks, weak_answer, strict_answer};
 ghost use Rattle.humantime.specs.Timestamps.{ZeroOffset, seconds_of, date_time_of, is_valid_date_time};
 ghost use Rattle.humantime.specs.Timestamps as Checks;
-ghost use Rattle.humantime.specs.StepsOfCalls.{fraction_answer, digits_answer};
+ghost use Rattle.humantime.specs.StepsOfCalls.{date_time_view, fraction_answer, digits_answer};
 ghost use Rattle.humantime.specs.StepsOfCalls as Steps;
 
 use crate::calendar::{Date, Turns, day_number};
@@ -194,7 +194,7 @@ fn layout_error(bytes: &[u8]) -> TimestampError
 fn parse_date_time(bytes: &[u8]) -> Option<DateTime>
     requires long { 19 ≤ length bytes.now }
     requires separator { IsTrue (Checks.has_separator bytes.now) }
-    ensures { SomeIff result (IsTrue (Steps.has_layout bytes.now)) (date_time_of bytes.now) }
+    ensures { SomeIff (option_map date_time_view result) (IsTrue (Steps.has_layout bytes.now)) (date_time_of bytes.now) }
 {
     let front = u8x16::from_slice(bytes) - u8x16::from_slice(&FRONT_MIN);
     let back = u8x16::from_slice(&bytes[3..]) - u8x16::from_slice(&BACK_MIN);
@@ -219,7 +219,7 @@ fn parse_date_time(bytes: &[u8]) -> Option<DateTime>
 #[inline(always)]
 #[tactic(auto, unfolding(crate::specs::Timestamps::is_valid_date_time))]
 fn unix_seconds(when: DateTime) -> Option<u64>
-    ensures value { SomeIff result (IsTrue (is_valid_date_time when)) (seconds_of when.date when.hour when.minute when.second) }
+    ensures value { SomeIff result (IsTrue (is_valid_date_time (date_time_view when))) (seconds_of when.date when.hour when.minute when.second) }
     ensures bound { IfSome result (λ n. n < 2 ^ 63) }
 {
     // `day_number` takes a count that only contracts see.
