@@ -24,7 +24,7 @@ pub use Rattle.humantime.specs.PrintedDurations.{AreCounts, IsCanonicalText, IsC
 -- Parsing timestamps.
 pub use Rattle.humantime.specs.Timestamps.{Fields, IsWeak, IsStrict, IsWeakMoment, IsStrictMoment}
 pub use Rattle.humantime.specs.Timestamps.{weak_checks, strict_checks, first_failed, timestamp_message}
-pub use Rattle.humantime.specs.TimestampResults.{weak_answer, strict_answer, IsWeakAnswer, moment_text, printed_text, shortest_text, DisplaysMoment}
+pub use Rattle.humantime.specs.TimestampResults.{weak_answer, strict_answer, IsWeakAnswer, IsStrictAnswer, moment_text, printed_text, shortest_text, DisplaysMoment}
 -- Printing timestamps.
 pub use Rattle.humantime.specs.Timestamps.{MomentToPrint, places_of, cut, IsPrinted, IsPrintedWith, IsPrintable}
 pub use Rattle.humantime.specs.Laws.{IsMarked, ReadsAs}

@@ -8,7 +8,7 @@ use Rattle.humantime.specs.declared.date.error.TimestampError.{TimestampError}
 use Rattle.humantime.specs.declared.date.print.Precision.{Precision}
 use Rattle.humantime.specs.declared.date.print.Precision.TheVariants.{Seconds, Millis, Micros, Nanos}
 use Rattle.humantime.specs.Values.{nanos_per_second, seconds_per_day}
-use Rattle.humantime.specs.Timestamps.{date_time_of, fraction_part, weak_checks, strict_checks, first_failed, digit, Letter_T, Letter_Z, Fields, fields_text, fraction_nanos, seconds_of, IsWeakMoment, MomentToPrint, year_10000, places_of, IsPrintable}
+use Rattle.humantime.specs.Timestamps.{date_time_of, fraction_part, weak_checks, strict_checks, first_failed, digit, Letter_T, Letter_Z, Fields, fields_text, fraction_nanos, seconds_of, IsWeakMoment, IsStrictMoment, MomentToPrint, year_10000, places_of, IsPrintable}
 
 -- ==== The date `n` days after 1970-01-01, computed with years that begin on 1 March and are counted from 1600, so that a leap day is the last day of its year. The text that `Display` of both timestamps writes is defined with this date. The definition need not be trusted: a law states that this text is the printed one.
 
@@ -75,6 +75,12 @@ pub record IsWeakAnswer (bytes : List ℕ) (r : Result ℤ TimestampError) : Typ
   pub value : (t : ℤ) → (r ≡ Ok t) ↔ IsWeakMoment bytes t
   pub error : (e : TimestampError) → (r ≡ Err e) ↔ (first_failed (weak_checks bytes) ≡ Some e)
   pub answer : r ≡ weak_answer bytes
+
+-- The same for the strict form.
+pub record IsStrictAnswer (bytes : List ℕ) (r : Result ℤ TimestampError) : Type 0 where
+  pub value : (t : ℤ) → (r ≡ Ok t) ↔ IsStrictMoment bytes t
+  pub error : (e : TimestampError) → (r ≡ Err e) ↔ (first_failed (strict_checks bytes) ≡ Some e)
+  pub answer : r ≡ strict_answer bytes
 
 -- The number of fraction digits of a precision.
 abbrev pub places : Precision → ℕ

@@ -186,10 +186,7 @@ impl FromStr for Timestamp {
     ghost from_str_gives = { IsWeakAnswer };
 
     fn from_str(s: &str) -> Result<Timestamp, TimestampError> {
-        match parse_rfc3339_weak(s) {
-            Ok(time) => Ok(Timestamp(time)),
-            Err(error) => Err(error),
-        }
+        Ok(Timestamp(parse_rfc3339_weak(s)?))
     }
 }
 

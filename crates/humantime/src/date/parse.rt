@@ -1,10 +1,9 @@
 //! Parses timestamps: [`parse_rfc3339`] in the strict format, and [`parse_rfc3339_weak`] in the weak format.
 
-ghost use Rattle.std.specs.Prelude.{◌≡◌, ◌^◌, ◌<◌, ◌≤◌, ◌↔◌, length, false, IsTrue, IfSome, SomeIff, option_map, Ok, Err, Some, ℤ};
+ghost use Rattle.std.specs.Prelude.{◌≡◌, ◌^◌, ◌<◌, ◌≤◌, length, false, IsTrue, IfSome, SomeIff, option_map, Err};
 ghost use Rattle.std.specs.Char.{is_ascii_digit};
 ghost use Rattle.std.specs.List.{list_all};
-ghost use Rattle.humantime.specs.declared.date.error.TimestampError.{TimestampError};
-ghost use Rattle.humantime.specs.Prelude.{IsWeakMoment, IsStrictMoment, first_failed, weak_checks, strict_checks, weak_answer, strict_answer};
+ghost use Rattle.humantime.specs.Prelude.{IsStrictAnswer, IsWeakAnswer, weak_answer};
 ghost use Rattle.humantime.specs.Timestamps.{ZeroOffset, seconds_of, date_time_of, is_valid_date_time};
 ghost use Rattle.humantime.specs.Timestamps as Checks;
 ghost use Rattle.humantime.specs.StepsOfCalls.{date_time_view, fraction_answer, digits_answer};
@@ -78,9 +77,7 @@ struct DateTime {
 /// ```
 #[inline(always)]
 pub fn parse_rfc3339_weak(s: &str) -> Result<SystemTime, TimestampError>
-    ensures value { (t : ℤ) → (result ≡ Ok t) ↔ IsWeakMoment s.now t }
-    ensures error { (e : TimestampError) → (result ≡ Err e) ↔ (first_failed (weak_checks s.now) ≡ Some e) }
-    ensures answer { result ≡ weak_answer s.now }
+    ensures { IsWeakAnswer s.now result }
 {
     read_timestamp(s.as_bytes())
 }
@@ -108,9 +105,7 @@ pub fn parse_rfc3339_weak(s: &str) -> Result<SystemTime, TimestampError>
 /// ```
 #[inline(always)]
 pub fn parse_rfc3339(s: &str) -> Result<SystemTime, TimestampError>
-    ensures value { (t : ℤ) → (result ≡ Ok t) ↔ IsStrictMoment s.now t }
-    ensures error { (e : TimestampError) → (result ≡ Err e) ↔ (first_failed (strict_checks s.now) ≡ Some e) }
-    ensures answer { result ≡ strict_answer s.now }
+    ensures { IsStrictAnswer s.now result }
 {
     if !has_t_and_zone(s.as_bytes()) {
         return Err(TimestampError::InvalidFormat);
