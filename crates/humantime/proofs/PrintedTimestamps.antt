@@ -2,7 +2,7 @@
 use Rattle.std.proofs.Common.{arith, ℕ, List, ◌≡◌, zero, suc, true, eqb, ◌+◌, ◌*◌, ◌/◌, ◌%◌, ◌<◌, ◌≤◌, [], ◌∷◌, ◌++◌, take, drop, length, get_or, refl, ap, ◌-◌, ◌^◌, ◌∙◌, sym}
 use Rattle.std.proofs.lemmas.Int.{ints}
 use Rattle.std.proofs.lemmas.Grind.{common_steps}
-use Rattle.std.specs.Prelude.{ℤ, codes, slice_set, Some, None, ◌==◌, if◌then◌else◌, min, Option, option_map, pos, ◌↔◌, negsuc, nat_abs, IsAscii}
+use Rattle.std.specs.Prelude.{ℤ, codes, slice_set, Some, None, ◌==◌, if◌then◌else◌, min, Option, option_map, pos, ◌↔◌, negsuc, nat_abs, IsAscii, IsSome, IfSome}
 use Rattle.std.proofs.Math.Nat.{suc-add, pow-suc, one-le-pow, mod-mod_of_dvd, dvd-mul_left, mod-le}
 use Rattle.std.proofs.lemmas.Bool.{agree_below_at, eqb-true, lt-ltb}
 use Rattle.std.proofs.Math.Arith.{mod-mul}
@@ -17,8 +17,8 @@ use Rattle.std.proofs.lemmas.Bool.Decides.{nat_tests}
 use Rattle.std.proofs.lemmas.Str.{digit_value_digit}
 use Rattle.std.specs.List.{AllByRecursion}
 use Rattle.std.proofs.lemmas.Option.{same_Some}
-use Rattle.humantime.specs.Timestamps.{IsWeakMoment, IsStrictMoment, fraction_nanos, fraction_digits, Letter_T, Letter_Z, Fields, fields_text, fraction_text, moment_of, IsPrintable, IsPrinted, places_of, cut, year_10000}
-use Rattle.humantime.specs.TimestampResults.{last_digits, printed_fields, fields_at, moment_text}
+use Rattle.humantime.specs.Timestamps.{MomentToPrint, IsWeakMoment, IsStrictMoment, fraction_nanos, fraction_digits, Letter_T, Letter_Z, Fields, fields_text, fraction_text, moment_of, IsPrintable, IsPrinted, places_of, cut, year_10000}
+use Rattle.humantime.specs.TimestampResults.{last_digits, printed_fields, fields_at, moment_text, printed_text}
 use Rattle.humantime.specs.declared.calendar.Date.{Date}
 use Rattle.humantime.specs.Calendar.{IsDate, day_of}
 use Rattle.humantime.specs.Laws.{PrintInOrder, ReadsAs}
@@ -212,6 +212,15 @@ text_displayed t k text small = (
   (λ h. let is : IsPrintable t = grind (arith, ints) in let some = printed_some t k small is in (is, rw (same_Some _ _ (sym h ∙ some.1)) some.2)),
   (λ p. let some = printed_some t k small p.0 in some.1 ∙ ap Some (one_text t k some.0 text some.2 p.1)),
 )
+
+-- The result of printing is the text that is computed, if any.
+no_text : (x : MomentToPrint) (text : Option (List ℕ)) → printed_text x ≡ text → ¬ (IsPrintable x.moment) → text ≡ None
+no_text x None computed refused = refl
+no_text x (Some text) computed refused = absurd (refused ((text_displayed x.moment x.places text x.few).0 computed).0)
+
+pub text_answered : (x : MomentToPrint) (text : Option (List ℕ)) → (IsSome text ↔ IsPrintable x.moment) → IfSome text (IsPrinted x.moment x.places) → text ≡ printed_text x
+text_answered x (Some text) within is = sym ((text_displayed x.moment x.places text x.few).1 (within.0 refl, is))
+text_answered x None within is = sym (no_text x (printed_text x) refl (λ h. let some = within.1 h in cc))
 
 -- A printed text parses to the moment, rounded down.
 pub printed_reads : (t : ℤ) (k : ℕ) (text : List ℕ) → IsPrinted t k text → ReadsAs text (cut t k)

@@ -162,7 +162,7 @@ strict_is_weak text =
 -- ---- Printing timestamps
 
 -- The result of parsing a printed text.
-printed_read : (t : ℤ) (k : ℕ) (text : List ℕ) → IsPrinted t k text → strict_answer text ≡ Ok (cut t k)
+pub printed_read : (t : ℤ) (k : ℕ) (text : List ℕ) → IsPrinted t k text → strict_answer text ≡ Ok (cut t k)
 printed_read t k text printed = ((read.strict_outcome text).value (cut t k)).1 (printed_reads t k text printed).strict
 
 pub printed_moment_reads : (t : ℤ) (k : ℕ) → k ≤ 9 → MomentPrintsAndReads t k

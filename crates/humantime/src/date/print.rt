@@ -1,9 +1,9 @@
 //! Prints timestamps: the `format_rfc3339` functions and [`Rfc3339Timestamp`].
 
-ghost use Rattle.std.specs.Prelude.{◌≡◌, ◌+◌, ◌<◌, ◌≤◌, ◌↔◌, IsSome, IfSome, IfNone, option_map, ◌++◌, take, drop, codes};
+ghost use Rattle.std.specs.Prelude.{◌≡◌, ◌+◌, ◌<◌, ◌≤◌, ◌↔◌, IsSome, IfSome, IfNone, option_map, ◌++◌, take, drop, codes, Ok};
 ghost use Rattle.std.specs.Borrow.{sem};
 ghost use Rattle.std.specs.Str.{IsUtf8};
-ghost use Rattle.humantime.specs.Prelude.{DisplaysMoment, IsDate, IsPrintable, IsPrinted, KeptAtNone, nano_of, places_of, printed_text};
+ghost use Rattle.humantime.specs.Prelude.{DisplaysMoment, IsDate, IsPrintable, IsPrinted, KeptAtNone, cut, nano_of, places_of, printed_text, strict_answer};
 ghost use Rattle.humantime.specs.Timestamps.{two_digits, date_time_text, fields_text};
 ghost use Rattle.humantime.specs.StepsOfCalls.{IsSecondOf};
 ghost use Rattle.humantime.specs.TimestampResults.{printed_fields};
@@ -206,7 +206,7 @@ impl Rfc3339Timestamp {
     /// Writes the string to the front of `buf` and returns it as a slice of `buf`, or returns `None` outside 1970 to 9999.
     ///
     /// The string has 20, 24, 27 or 30 bytes; the bytes of `buf` after it are unspecified. If the result is `None`, `buf` is
-    /// unchanged.
+    /// unchanged. [`parse_rfc3339`](crate::parse_rfc3339) parses the string to the time, truncated to its digits.
     ///
     /// # Examples
     ///
@@ -224,6 +224,8 @@ impl Rfc3339Timestamp {
     pub fn text<'b>(&self, buf: &'b mut [u8; 30]) -> Option<&'b str>
         ensures within { IsSome result ↔ IsPrintable self.now.moment }
         ensures text { IfSome result (λ t. IsPrinted self.now.moment self.now.places t.now) }
+        ensures answer { option_map (λ t. t.now) result ≡ printed_text self.now }
+        ensures reads_back { IfSome result (λ t. strict_answer t.now ≡ Ok (cut self.now.moment self.now.places)) }
         ensures* unchanged { sem 𝓛 (KeptAtNone 30 buf.entry result) }
     {
         let len = self.write(buf);

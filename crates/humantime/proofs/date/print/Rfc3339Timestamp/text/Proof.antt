@@ -21,12 +21,15 @@
 use Rattle.std.proofs.lemmas.Grind.{common_steps}
 use Rattle.std.proofs.lemmas.Str.{IsUtf8-from_ascii}
 use Rattle.std.specs.Str.{IsUtf8}
-use Rattle.humantime.proofs.PrintedTimestamps.{printed_ascii}
-use Rattle.humantime.specs.Timestamps.{IsPrinted, IsPrintable}
+use Rattle.humantime.proofs.PrintedTimestamps.{printed_ascii, text_answered}
+use Rattle.humantime.proofs.Theorems.{printed_read}
+use Rattle.humantime.specs.Timestamps.{IsPrinted, IsPrintable, cut}
+use Rattle.humantime.specs.TimestampResults.{printed_text, strict_answer}
 use Rattle.humantime.proofs.StandardFacts.{Val, ◌≡◌, ℕ, ◌≤◌, List, [], ◌∷◌, refl, MutBor, proved, full_share, id⊢, emp, ftrue, flft, fres, named, arith, fact, fact_i, tables, ‵, raw, ◌⊛◌, some, later, ◌$◌, ◌∵◌, !, qed, by, move, keep, drop, use0, use1, use2, use3, split, join, fsplit, fjoin, feq_i, feq_l, pick, await, suffices, frame, enter, addr, stop, no_more, and_then, returns, alloc_all, pass_all, free_all, look_at, get, through, sets, lands_as, shows, MutRef, ShrRef, mut_vals, shr_vals, mut_Tells, shr_Tells, plain, nothing, heard, peeks, calls_at, lasts, triple_of, Stays, stay_dropped, Goes-dropped, Goes-spent_ref, ends_at, yes, no, framed}
 use mir.Syntax.{w8, erased}
 use Rattle.std.specs.Borrow.{Array, u8, usize}
-use Rattle.std.specs.Prelude.{Option, IfNone, IfSome, IsSome, ◌↔◌, option_map, take}
+use Rattle.std.proofs.Common.{◌∙◌}
+use Rattle.std.specs.Prelude.{Option, Ok, IfNone, IfSome, IsSome, ◌↔◌, option_map, take}
 use denote.Ref.{Bor}
 use denote.Builtin.{RefOf}
 use denote.Memory.{lone}
@@ -130,4 +133,6 @@ text_spec {M} 𝓤 𝓛 𝓜 𝓡 wired =
     nothing ! $ move ! (3 ∷ 0 ∷ []) $ join ! $ move ! (2 ∷ 0 ∷ []) $ join ! $ join ! $ frame ! $
     use0 𝓛 (raw (fact 𝓤 (IsSome t ↔ IsPrintable x.now.moment))) (fact_i 𝓤 _ (emp 𝓤) (grind (arith, common_steps, shown, within))) $ frame ! $
     use0 𝓛 (raw (fact 𝓤 (IfSome t (λ u. IsPrinted x.now.moment x.now.places u.now)))) (fact_i 𝓤 _ (emp 𝓤) (grind (arith, shown, text))) $ frame ! $
+    use0 𝓛 (raw (fact 𝓤 (option_map (λ u. u.now) t ≡ printed_text x.now))) (fact_i 𝓤 _ (emp 𝓤) (shown ∙ text_answered x.now (option_map (λ n. take n y) m) (grind (arith, common_steps, within)) (grind (arith, text)))) $ frame ! $
+    use0 𝓛 (raw (fact 𝓤 (IfSome t (λ u. strict_answer u.now ≡ Ok (cut x.now.moment x.now.places))))) (fact_i 𝓤 _ (emp 𝓤) (grind (arith, shown, text, printed_read))) $ frame ! $
     by ! (holds 𝓛 30 r y (λ last. IfNone t (last ≡ r.now)) (grind (arith, shown, same)))))))))))))))))))))
