@@ -2,7 +2,7 @@
 
 ghost use Rattle.std.specs.Prelude.{◌≡◌, List, ℕ, Ok, OnOk, IfOk, IfErr, MatchOption, chars, string_bytes};
 ghost use Rattle.std.specs.Duration.{as_nanos};
-ghost use Rattle.serde.specs.Event.{Logs, key_begins, map_ends, nothing, seq_ends, text};
+ghost use Rattle.serde.specs.Event.{Logs, map_ends, seq_ends, text};
 ghost use Rattle.serde.specs.Steps.{Begins, Gives};
 ghost use Rattle.humantime.specs.Prelude.{IsPrinted, duration_answer, duration_text, places_of, weak_answer};
 ghost use Rattle.humantime_settings.specs.Texts.{Form, AreEntries, AreTexts, IsMapFrom, IsText, IsTextOrNothing, Reads, ReadsEntry, Writes};

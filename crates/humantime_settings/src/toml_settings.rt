@@ -1,6 +1,6 @@
 //! Settings in TOML, and the position of an error in them.
 
-ghost use Rattle.std.specs.Prelude.{◌≡◌, ◌≢◌, Err, IfErr, IfOk, IsSome, OnOk};
+ghost use Rattle.std.specs.Prelude.{◌≢◌, Err, IfErr, IfOk, IsSome, OnOk};
 ghost use Rattle.toml.specs.Parse.{parse_document};
 ghost use Rattle.humantime_settings.specs.Marks.{IsErrorIn};
 

@@ -1,6 +1,6 @@
 -- The bytes of an error: numbers of two digits, what fits a layout, and that their range lies in the text, between characters.
 use Rattle.std.proofs.Common.{◌≡◌, ℕ, zero, suc, ◌+◌, ◌-◌, ◌*◌, ◌<◌, ◌≤◌, Some, List, [], ◌∷◌, length, get_or, drop, inl, inr, refl, add-one, lit<, arith}
-use Rattle.std.specs.Prelude.{true, Bool, ◌==◌, slice_index}
+use Rattle.std.specs.Prelude.{⊤, true, Bool, ◌==◌, slice_index}
 use Rattle.std.specs.Char.{is_ascii_digit}
 use Rattle.std.specs.List.{common_prefix_len, prefix_len}
 use Rattle.std.specs.Str.{IsUtf8, IsCharBoundary}
@@ -33,6 +33,10 @@ year_of_pairs b long century decade =
 
 -- The numbers of the fields.
 pub ruleset fields = (common_steps, and_parts, year_of_pairs)
+
+unfoldable pub fields_open : ⊤
+unfolding wrong_field has_digits
+fields_open = tt
 
 -- A number is out of range only in a text that has its digits.
 pub weak_digits : (b : List ℕ) → first_failed (weak_checks b) ≡ Some OutOfRange → has_digits b ≡ true

@@ -408,7 +408,7 @@ fn fits(place: u8, byte: u8) -> bool
 }
 
 /// Returns the bytes of the first field that is out of range.
-#[tactic(auto, using(crate::proofs::Inside::fields), unfolding(crate::specs::Located::wrong_field, humantime::specs::Timestamps::has_digits))]
+#[tactic(auto, using(crate::proofs::Inside::fields), unfolding(crate::proofs::Inside::fields_open))]
 fn wrong_field(bytes: &[u8]) -> (usize, usize)
     requires long { 19 ≤ length bytes.now }
     requires digits { has_digits bytes.now ≡ true }
