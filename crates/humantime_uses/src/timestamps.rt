@@ -1,13 +1,13 @@
 //! Lines of a log: callers that parse, print and compare timestamps.
 
-ghost use Rattle.std.specs.Prelude.{◌≡◌, ◌↔◌, ◌<ℤ◌, ◌≤ℤ◌, ℤ, IsTrue, IsSome, IsSomeAnd, IfSome, IfOk, IsOkAnd, Ok, Err, string_bytes};
+ghost use Rattle.std.specs.Prelude.{◌≡◌, ◌↔◌, ◌<ℤ◌, ◌≤ℤ◌, ℤ, IsTrue, IsSome, IsSomeAnd, IfSome, IfOk, IsOkAnd, Ok, Err, length, option_map, string_bytes};
 ghost use Rattle.std.specs.Ordering.{int_cmp};
 ghost use Rattle.humantime.specs.declared.TimestampError.{TimestampError};
-ghost use Rattle.humantime.specs.Prelude.{weak_answer, strict_answer, IsPrinted, IsPrintedWith, IsPrintable, cut, places_of};
+ghost use Rattle.humantime.specs.Prelude.{weak_answer, strict_answer, IsPrinted, IsPrintedWith, IsPrintable, cut, places_of, printed_text};
 
 use humantime::{
-    SystemTime, TimestampError, format_rfc3339, format_rfc3339_micros, format_rfc3339_millis,
-    format_rfc3339_seconds, parse_rfc3339, parse_rfc3339_weak,
+    Rfc3339Timestamp, SystemTime, TimestampError, format_rfc3339, format_rfc3339_micros,
+    format_rfc3339_millis, format_rfc3339_seconds, parse_rfc3339, parse_rfc3339_weak,
 };
 use std::alloc::{AllocError, Global};
 use std::cmp::Ordering;
@@ -25,8 +25,16 @@ pub fn is_since(stamp: &str, from: SystemTime) -> Result<bool, TimestampError>
 pub fn stamp_of<'b>(moment: SystemTime, buf: &'b mut [u8; 30]) -> Option<&'b str>
     ensures within { IsSome result ↔ IsPrintable moment }
     ensures text { IfSome result (λ text. IsPrinted moment 0 text.now) }
+    ensures parsed { IfSome result (λ text. strict_answer text.now ≡ Ok (cut moment 0)) }
 {
     format_rfc3339_seconds(moment).text(buf)
+}
+
+/// Returns the number of bytes that a timestamp has as a string, or `None` outside 1970 to 9999.
+pub fn stamp_len(stamp: &Rfc3339Timestamp) -> Option<usize>
+    ensures { result ≡ option_map (λ text. length text) (printed_text stamp.now) }
+{
+    Some(stamp.text(&mut [0; 30])?.len())
 }
 
 /// Returns a moment as a `String`, by `Display`.

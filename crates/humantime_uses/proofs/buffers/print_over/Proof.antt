@@ -1,8 +1,8 @@
 use Rattle.humantime.proofs.StandardFacts.{Val, ◌≡◌, ℕ, List, [], ◌∷◌, refl, MutBor, proved, full_share, id⊢, ftrue, flft, fres, named, vunit, fact, tables, ‵, raw, ◌⊛◌, some, later, ◌$◌, ◌∵◌, !, qed, done, move, keep, use1, use2, use3, split, join, fjoin, feq_i, pick, await, suffices, enter, addr, stop, no_more, and_then, returns, alloc_all, pass_all, free_all, look_at, get, through, sets, of_opd, lands_as, shows, MutRef, ShrRef, mut_vals, shr_vals, mut_Tells, shr_Tells, plain, nothing, heard, peeks, calls_at, lasts, triple_of, Stays, stay_dropped, Goes-dropped, ends_at, says, yes, framed}
 use Rattle.humantime_uses.proofs.Kept.{unit_lit, Array, u8, Bor, lone, lends_again, comes_back, LentAgain, RattleType, type_at, Lasts, stay_ref, Goes-ref, lft_new, lft_end, last_held, kept_unless}
-use Rattle.std.specs.Prelude.{Option, IfSome, IfNone, IsSome, ◌↔◌}
+use Rattle.std.specs.Prelude.{Option, Ok, IfSome, IfNone, IsSome, ◌↔◌, option_map}
 use denote.Builtin.{RefOf}
-use Rattle.humantime.specs.Prelude.{IsPrintable, IsPrinted, KeptAtNone}
+use Rattle.humantime.specs.Prelude.{IsPrintable, IsPrinted, KeptAtNone, cut, printed_text, strict_answer}
 use Rattle.humantime.specs.contracts.date.print.Rfc3339Timestamp.{the_row as Self}
 use Rattle.humantime.specs.contracts.date.print.Rfc3339Timestamp.text as g
 use Rattle.humantime.proofs.date.print.Rfc3339Timestamp.text.Met as g-met
@@ -46,13 +46,14 @@ print_over_spec {M} 𝓤 𝓛 𝓜 𝓡 wired =
     calls_at ! (framed 𝓤 𝓛.H 𝓜 (tables 𝓤 𝓛.H 𝓜 𝓡 𝓡.env)) G (g-met.met 𝓤 𝓛 𝓜 𝓡 (code.calls-humantime::date::print::Rfc3339Timestamp::text 𝓡.env wired)) z
     (and_then ! (get ! refl) (and_then ! (get ! refl) (no_more !))) (λ v.
     use1 𝓛 (later (some (λ (t : Option (Bor (List ℕ))). ((‵ (flft κ₀ q₀) ⊛ ‵ (flft (α ∷ []) full_share) ⊛ ‵ ftrue) ⊛ ‵ (Res.own_val t (v ∷ []))) ⊛
-    some (λ (ws : Lasts g.ended z.0.0 z.0.3). ‵ (lasts g.ended z.0.0 z.0.3 ws) ⊛ raw (fact 𝓤 (IsSome t ↔ IsPrintable x.now.moment)) ⊛ raw (fact 𝓤 (IfSome t (λ u. IsPrinted x.now.moment x.now.places u.now))) ⊛ ‵ (KeptAtNone 30 r' t))))) (id⊢ 𝓤 _) $
+    some (λ (ws : Lasts g.ended z.0.0 z.0.3). ‵ (lasts g.ended z.0.0 z.0.3 ws) ⊛ raw (fact 𝓤 (IsSome t ↔ IsPrintable x.now.moment)) ⊛ raw (fact 𝓤 (IfSome t (λ u. IsPrinted x.now.moment x.now.places u.now)))
+    ⊛ raw (fact 𝓤 (option_map (λ u. u.now) t ≡ printed_text x.now)) ⊛ raw (fact 𝓤 (IfSome t (λ u. strict_answer u.now ≡ Ok (cut x.now.moment x.now.places)))) ⊛ ‵ (KeptAtNone 30 r' t))))) (id⊢ 𝓤 _) $
     await ! tt $ pick ! (λ t. split ! $ split ! $ split ! $ move ! (1 ∷ []) $ split ! $ lft_end ! tt $
     -- [α is over; nothing; that of κ₀; the result; what is said; what the lender keeps]
     move ! (3 ∷ []) $ peeks ! Res _ (shows 𝓛 Res) t (v ∷ []) (λ is.
     lands_as ! refl refl ((lts.r-0.laws M 𝓤 𝓛).typed z.0.0 t v is [] (lone Res.mir) (λ _. refl)) $
     -- [the result; α is over; nothing; that of κ₀; what is said; what the lender keeps]
-    move ! (4 ∷ []) $ pick ! (λ ws. split ! $ move ! (1 ∷ []) $ split ! $ heard ! _ (λ within. split ! $ heard ! _ (λ text.
+    move ! (4 ∷ []) $ pick ! (λ ws. split ! $ move ! (1 ∷ []) $ split ! $ heard ! _ (λ within. split ! $ heard ! _ (λ text. split ! $ heard ! _ (λ answer. split ! $ heard ! _ (λ reads.
     use1 𝓛 (some (λ (y : List ℕ). ‵ (fres δ (A.coded.code y)) ⊛ raw (fact 𝓤 (IfNone t (y ≡ r.now))))) (last_held 𝓛 30 r' (λ last. IfNone t (last ≡ r.now))) $ pick ! (λ y. split ! $ move ! (1 ∷ []) $ heard ! _ (λ same.
     -- [buf's last value; nothing of the parameters; the result; α is over; nothing; that of κ₀; what the lender keeps]
     move ! (3 ∷ 6 ∷ 0 ∷ []) $ use3 𝓛 (later (‵ (Ref κ (record r { now = y })) ⊛ ‵ (flft κ q)))
@@ -65,4 +66,4 @@ print_over_spec {M} 𝓤 𝓛 𝓜 𝓡 wired =
     nothing ! $ move ! (3 ∷ 0 ∷ []) $ fjoin ! $ nothing ! $ fjoin ! $
     feq_i ! (List Val) (vunit ∷ []) (vunit ∷ []) refl $ move ! (1 ∷ 0 ∷ []) $ join ! $
     -- [buf and the result; the token of κ₀; that of κ]
-    nothing ! $ move ! (3 ∷ 0 ∷ []) $ join ! $ move ! (2 ∷ 0 ∷ []) $ join ! $ join ! $ done !))))))))))))
+    nothing ! $ move ! (3 ∷ 0 ∷ []) $ join ! $ move ! (2 ∷ 0 ∷ []) $ join ! $ join ! $ done !))))))))))))))
