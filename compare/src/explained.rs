@@ -27,7 +27,7 @@ rows! {
     GREEK_LETTER: "the Greek letter U+03BC is an invalid character",
     CARRY_TOO_LARGE: "spans whose nanoseconds carry their seconds beyond `u64::MAX`",
     NO_DIGIT_AFTER_SPACE: "whitespace at the start, or more than one whitespace character",
-    BAD_AFTER_POINT: "an invalid character right after a point",
+    BAD_AFTER_POINT: "an invalid character directly after a point",
     SPACE_AFTER_POINT: "whitespace after a point without digits, and then a letter or the end",
     TAIL_AFTER_PLUS: "after the fraction of a timestamp, a `+` and five bytes other than `00:00`",
     BYTES_AFTER_ZONE: "one to five bytes after a `Z` that follows the seconds",
