@@ -64,10 +64,13 @@ pub fn serialize<T: Field, S: Serializer>(value: &T, out: &mut S) -> Result<(), 
 ///
 /// # Errors
 ///
-/// Returns an error of the format with the message `expected a duration in quotes` or `expected a timestamp in quotes` if there is no
-/// string, one with the message of `humantime` if there is another string, and one of its own if there is no list or map, or if an
-/// allocation fails. The formats cut a message at 80 bytes or less; [`from_json`](crate::from_json) and [`from_toml`](crate::from_toml)
-/// have the whole.
+/// Returns an error of the format, with the message
+///
+/// - `expected a duration in quotes` or `expected a timestamp in quotes` if there is no string;
+/// - of `humantime` if the string is no duration or timestamp;
+/// - of the format if there is no list or map, or if an allocation fails.
+///
+/// The formats cut a message at 80 bytes or less; [`from_json`](crate::from_json) and [`from_toml`](crate::from_toml) have the whole.
 ///
 /// # Examples
 ///
@@ -152,7 +155,7 @@ trait Value: Sized + Drop {
         ensures { IfOk result (λ v. (form : Form) × IsReadFrom v form × Reads F.gives F.stays form from.old from.new) };
 }
 
-/// A value that is written as a field is, as the key of a map, in any collection, or by itself.
+/// A wrapper for the keys of a map, the items of other collections, or a whole document: it is written and read as a field is.
 ///
 /// # Examples
 ///

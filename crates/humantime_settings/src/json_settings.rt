@@ -16,9 +16,11 @@ use std::alloc::{AllocError, Global};
 ///
 /// # Errors
 ///
-/// Returns [`SettingsError::At`] with the first error, and [`SettingsError::OutOfMemory`] if an allocation fails. A string that is no
-/// duration or timestamp is marked where it is wrong, and any other value at its start. An unknown key, or a duplicate one, is
-/// marked at its start, and a missing one where its object ends.
+/// Returns [`SettingsError::At`] with the first error, and [`SettingsError::OutOfMemory`] if an allocation fails. The position is
+///
+/// - in a string that is no duration or timestamp: what is wrong in it;
+/// - of another wrong value, of an unknown key or of a duplicate one: its start;
+/// - of a missing key: the end of its object.
 ///
 /// # Examples
 ///
@@ -46,7 +48,7 @@ pub fn from_json<'a, T: Deserialize<'a>>(alloc: Global, text: &'a str) -> Result
     Err(SettingsError::At(marked_at(alloc, text, fault)?))
 }
 
-/// Writes settings in JSON, one to a line.
+/// Writes settings in pretty-printed JSON.
 ///
 /// # Errors
 ///

@@ -6,7 +6,7 @@
 //!   be `None` if it is missing.
 //! - [`AsText`] is the key of a map, or an item of another collection.
 //! - [`from_json`] and [`from_toml`] read settings. Their error, [`SettingsError`], has the line, the column, the whole message of
-//!   `humantime`, and a mark under the error.
+//!   `humantime`, and carets under what is wrong.
 //! - [`to_json`] and [`to_toml`] write settings, each value as its canonical string.
 //!
 //! # Examples

@@ -48,8 +48,8 @@ fn piece_at(string: &str, byte: usize) -> (usize, usize) {
     (end, end)
 }
 
-/// Returns what is between the quotes of a string, if it has any, and its offset. A line feed at its start, which only three quotes have, is
-/// left out.
+/// Returns what is between the quotes of a string, if it has any, and its offset. A line feed at its start, which only three quotes have,
+/// is left out.
 fn content_of(string: &str) -> (usize, &str) {
     let is_long = string.starts_with("\"\"\"") || string.starts_with("'''");
     let has_quotes = string.starts_with('"') || string.starts_with('\'');

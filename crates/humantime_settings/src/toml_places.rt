@@ -58,7 +58,8 @@ struct Parts<'a> {
 }
 
 impl<'a> Places<'a> {
-    /// Creates a walk from the start of a document. If the keys are cut, nothing is left of them wherever they are the front of a place's own.
+    /// Creates a walk from the start of a document. If the keys are cut, nothing is left of them wherever they are the front of a place's
+    /// own.
     pub(crate) fn new(
         alloc: Global,
         document: &'a str,

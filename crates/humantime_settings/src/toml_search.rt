@@ -91,8 +91,8 @@ impl<'a> Search<'a> {
         Ok(None)
     }
 
-    /// Returns the offset of the first table that has no key of this name, with which `keys` end. The table at the top begins with the text,
-    /// and one that only dotted keys or longer headers make begins at the first of these.
+    /// Returns the offset of the first table that has no key of this name, with which `keys` end. The table at the top begins with the
+    /// text, and one that only dotted keys or longer headers make begins at the first of these.
     fn table_without(&self, keys: &str, name: &str) -> Result<Option<usize>, ParseError> {
         let mut places = Places::new(self.alloc, self.text, keys, false)?;
         let (mut found, mut has_name) = ((keys == name).then_some(0), false);
@@ -325,7 +325,8 @@ impl<'a> Search<'a> {
         Ok(false)
     }
 
-    /// Returns `true` if a value is the one with the error `said` of a duration or a timestamp: another text in its place has its own error.
+    /// Returns `true` if a value is the one with the error `said` of a duration or a timestamp: another text in its place has its own
+    /// error.
     fn has_fault<T: DeserializeOwned>(&self, value: &str) -> Result<bool, ParseError> {
         // Of these, one has another error than `said`, if it is a duration and if it is a timestamp.
         for (other, quoted) in [

@@ -15,14 +15,16 @@ use toml_parser::ParseError;
 ///
 /// # Errors
 ///
-/// Returns [`SettingsError::At`] where the document is not TOML, with a value of the wrong type or one that is not a duration or a
-/// timestamp, with an unknown key, and with the first table that lacks a key. A string or a key that is no duration or timestamp is marked
-/// where it is wrong, and any other value at its start. A table is marked at its header or brace, one that has neither at the first key
-/// that makes it, and the one at the top at the start of the document. Of several wrong values, the one whose keys sort first has the
-/// error.
+/// Returns [`SettingsError::At`] where the document is not TOML, and with an error of a value or a key. Of several wrong values, the one
+/// whose keys sort first has the error. The position is
 ///
-/// Returns [`SettingsError::Whole`], with the keys in the message, if the message does not tell the positions with these keys apart, and for a
-/// fault that is no duration or timestamp below keys that have over 80 bytes together.
+/// - in a string or a key that is no duration or timestamp: what is wrong in it;
+/// - of another wrong value, or of an unknown key: its start;
+/// - of a missing key: the start of its table. This is its header or its brace, or the first key that makes it, and of the table at the top
+///   the start of the document.
+///
+/// Returns [`SettingsError::Whole`], with the keys in the message, if several values with these keys could be meant, and for any other
+/// error than that of a duration or timestamp below keys that have over 80 bytes together.
 ///
 /// Returns [`SettingsError::OutOfMemory`] if an allocation fails.
 ///

@@ -1,4 +1,4 @@
-//! The current time, sleep, and deadlines. No contract can say what a clock returns.
+//! The current time, sleep, and deadlines. No contract can say which time a clock returns.
 
 ghost use Rattle.std.specs.Prelude.{◌≡◌, ◌+◌, ◌-◌, ◌↔◌, ◌≤ℤ◌, pos, IfOk, IfSome, IsSome};
 ghost use Rattle.std.specs.Time.{FitsClock, instant_nanos};

@@ -147,7 +147,7 @@ pub trait StdDurationExt: Sized {
     /// ```
     fn checked_mul(self, factor: u64) -> Option<Self>;
 
-    /// Divides this duration by a number and rounds down to nanoseconds, or returns `None` if the number is zero.
+    /// Divides this duration by a number and truncates to nanoseconds, or returns `None` if the number is zero.
     ///
     /// # Examples
     ///

@@ -98,10 +98,12 @@ impl<E: Display> Display for Located<E> {
     }
 }
 
+impl<E: Error> Error for Located<E> {}
+
 /// A caret line to print under another line: `^` under each column of a part of it.
 ///
 /// The columns are those of a terminal as the crate `unicode_width` counts them: two for a wide character such as `中`, none for a combining
-/// one.
+/// one. A tab in the part, and a line feed in either, cannot be underlined as a terminal shows it.
 ///
 /// # Examples
 ///
@@ -117,7 +119,7 @@ impl<E: Display> Display for Located<E> {
 /// ```
 #[derive(Clone, Copy, Debug)]
 pub struct Underline<'a> {
-    /// The line up to the part. Its tabs are printed, so that the mark stands under the part.
+    /// The line up to the part. Its tabs are printed, so that the carets are under the part.
     pub before: &'a str,
     /// The part. If it takes no column, one `^` is printed.
     pub part: &'a str,
@@ -157,8 +159,8 @@ static STRICT: Layout = *b"0000-00-00T00:00:00";
 /// # Errors
 ///
 /// Returns its error with the character that is wrong, with the unit, or, if this is missing, with the end of the string. The range of
-/// `NumberOverflow` is the first span up to whose end the string overflows, or, if its number or fraction is too long, all from there on.
-/// The range of `Empty` is the whole string.
+/// `NumberOverflow` is the first span with which the string overflows, or, if its number or fraction is too long, everything from its start
+/// on. The range of `Empty` is the whole string.
 ///
 /// # Examples
 ///
@@ -190,8 +192,8 @@ pub fn parse_duration(text: &str) -> Result<StdDuration, Located<DurationError<'
 ///
 /// Returns its error with the bytes that are wrong:
 ///
-/// - if the first 19 bytes are not of the form `0000-00-00 00:00:00`, the first character that cannot stand there, or the end of the string
-///   if it ends before that;
+/// - if the first 19 bytes are not of the format `0000-00-00 00:00:00`, the first character that cannot be there, or the end of the
+///   string if it ends before that;
 /// - else, if a number is out of range, the first such number, such as the day;
 /// - else what follows the longest timestamp at the start of the string.
 ///
