@@ -1,9 +1,11 @@
-"""What the scripts share: files, copies of the repository, commands, `--help`, and a script's last line."""
+"""What the scripts share: files, copies of the repository, commands, attempts that are kept, `--help`, and a script's last line."""
+import os
 import re
 import shutil
 import subprocess
 import sys
 import tempfile
+from hashlib import sha256
 from pathlib import Path
 
 ROOT = Path(__file__).resolve().parent.parent
@@ -70,6 +72,21 @@ def run(*command, **options):
 def rt(top, crate, *words):
     """Runs `rt` in the folder of a crate."""
     return run("rt", *words, cwd=Path(top, "crates", crate))
+
+
+def once(crates, attempt, *given):
+    """Makes an attempt with a copy of these crates, which returns how many tries it made, and the failures. Returns how many passed, and the
+    failures. If all passed on this machine with the same copy, tests, scripts, kit, and values that are given, it is not made again."""
+    with room(attempt.__name__) as top:
+        tests = [path for name in crates for below in BELOW[name] for path in (CRATES / below / "tests").rglob("*")]
+        paths = [*copied(top, crates).rglob("*"), *tests, *ROOT.glob("scripts/*.py"), Path(sys.argv[0])]
+        all_read = sorted((path.name, path.read_bytes()) for path in {*paths} if path.is_file() and path.suffix != ".md")
+        key = run("rt", "version").stdout, crates, attempt.__name__, given, all_read
+        kept = Path(os.environ.get("XDG_CACHE_HOME") or Path.home() / ".cache", "humantime", sha256(repr(key).encode()).hexdigest())
+        tries, failed = (int(kept.read_text()), []) if kept.exists() else attempt(top, *given)
+    if not failed:
+        write(str(tries), kept)
+    return max(tries - len(failed), 0), failed
 
 
 def builds(crate):
