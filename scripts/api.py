@@ -1,4 +1,4 @@
-"""Makes docs/API.md of the sources: the public items of the libraries, with what their docstrings say first, their errors and contracts."""
+"""Makes docs/API.md of the sources: the public items of the libraries, with what their docstrings say first, and their contracts."""
 import re
 
 from sources import files, items
@@ -7,19 +7,18 @@ from sources import files, items
 LIBRARIES = {"humantime": ["duration", "date", "value", "wrapper", "calendar", "laws"], "humantime_std": [], "humantime_settings": []}
 HEAD = """# Public items
 
-Made of the sources by `scripts/pages --write`. Each block has the public items of one file: the first paragraph of the docstring, the
-errors, and the signature with its contract. The file itself has the details and an example. A type is followed by its traits, except for
-`Drop` and `Model`, and its methods. [PROVED](PROVED.md) says in words what the contracts promise, and
-[CALLING](../crates/humantime/CALLING.md) explains the notation. Each item is at the root of its crate, or in a module `laws` or `located`.
+Made of the sources by `scripts/pages --write`. Each block has the public items of one file: the first paragraph of the docstring, and the
+signature with its contract. The file itself has the details, the errors and an example. A type is followed by its traits, except for `Drop`
+and `Model`, and its methods. [PROVED](PROVED.md) says in words what the contracts promise, and [CALLING](../crates/humantime/CALLING.md)
+explains the notation. Each item is at the root of its crate, or in a module `laws` or `located`.
 """
 LINK = r"\[(`[^`]*`)\](?:\([^)]*\))?"
 
 
 def said(docs):
-    """Returns the first paragraph of a docstring and its errors, as comments."""
+    """Returns the first paragraph of a docstring, as comments."""
     text = re.sub(LINK, r"\1", "\n".join(line for _, line in docs))
-    parts = [text.partition("\n\n")[0], text.partition("# Errors\n\n")[2].partition("\n\n# ")[0]]
-    return [f"/// {line}".rstrip() for line in "\n\n".join(filter(None, parts)).split("\n")] if docs else []
+    return [f"/// {line}" for line in text.partition("\n\n")[0].split("\n")] if docs else []
 
 
 def inside(lines):
@@ -46,7 +45,8 @@ def entry(item, lines, found):
         if other.kind == "impl" and other.owner == item.name and other.trait not in ("", "Model"):
             known = [line for line in inside(rest) if re.match(r"    (type|ghost (?!use)).*;$", line) and "Prim." not in line]
             methods = [part.head for part, _ in found if (part.owner, part.trait) == other[4:6] and "ensures" in part.head]
-            made += ["", *said(other.docs), re.sub(r" \{\}?$", "", rest[2]), *known, *("    " + head.replace("\n", "\n    ") for head in methods)]
+            made += [""] * bool(other.docs or known or methods) + said(other.docs) + [re.sub(r" \{\}?$", "", rest[2]), *known]
+            made += ["    " + head.replace("\n", "\n    ") for head in methods]
         elif other.kind in ("const", "fn") and (other.is_public and other.owner or other.trait) == item.name:
             docs = next(part.docs for part, _ in found if part.name == other.name and part.docs and part.owner in (item.name, other.owner))
             made += ["", *said(docs), "\n".join(declared(other, rest)).replace(f"{other.kind} ", f"{other.kind} {other.owner}::", 1)]
