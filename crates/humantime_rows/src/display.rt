@@ -24,7 +24,7 @@ impl fmt::Write for Wanted<'_> {
 }
 
 /// Returns whether the value is written as this text, in at most `most` writes.
-pub(crate) fn is_written<D: Display + Drop>(value: D, text: &str, most: u32) -> bool {
+pub fn is_written<D: Display + Drop>(value: D, text: &str, most: u32) -> bool {
     let mut sink = Wanted {
         rest: Some(text.as_bytes()),
         requests: 0,

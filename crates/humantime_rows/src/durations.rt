@@ -1,10 +1,11 @@
 //! The library's results of calls about durations.
 
 use crate::display::is_always_written;
-use crate::writing::{all_agree, no_result, parts, write_message, write_result};
+use crate::values::Value;
+use crate::writing::{all_agree, write_result};
 use humantime::{
-    Duration, DurationError, FormattedDuration, StdDuration, canonical, format_duration,
-    parse_duration,
+    Duration, DurationError, FormattedDuration, Span, StdDuration, canonical, format_duration,
+    parse_duration, spans,
 };
 use std::fmt::{self, Formatter, Write};
 
@@ -16,8 +17,7 @@ pub(crate) fn parse<W: fmt::Write>(f: &mut Formatter<W>, text: &str) -> fmt::Res
         Ok(value) => {
             let printed = canonical(text, &mut buf).unwrap_or_default();
             let is_agreed = wrapped == Ok(Duration::from(value)) && is_printed(value, printed);
-            let parts = (value.as_secs(), value.subsec_nanos());
-            write_result(f, Ok::<_, ()>(parts), is_agreed)
+            write_result(f, Ok::<_, ()>(value.parts()), is_agreed)
         }
         Err(error) => {
             let refused = canonical(text, &mut buf).err();
@@ -54,65 +54,36 @@ fn points_into(error: DurationError<'_>, text: &str) -> bool {
 /// Returns whether the error equals its clone, and does not equal an error that differs only in its offset.
 fn is_itself_alone(error: DurationError<'_>) -> bool {
     let is_itself = error.clone().ok() == Some(error);
-    let DurationError::UnknownUnit {
-        start,
-        end,
-        unit,
-        value,
-    } = error
-    else {
-        return is_itself;
-    };
-    let later = DurationError::UnknownUnit {
-        start: start.wrapping_add(1),
-        end,
-        unit,
-        value,
-    };
-    let longer = DurationError::UnknownUnit {
-        start,
-        end: end.wrapping_add(1),
-        unit,
-        value,
-    };
-    all_agree(&[is_itself, error != later, error != longer])
-}
-
-/// Writes the value that the text is parsed to as a wrapper, and the wrapper's text; or the error.
-pub(crate) fn wrap<W: fmt::Write>(f: &mut Formatter<W>, text: &str) -> fmt::Result {
-    match Duration::from_str(text) {
-        Ok(wrapper) => {
-            let value = *wrapper.as_ref();
-            let parts = (value.as_secs(), value.subsec_nanos());
-            write!(f, "{:?}, {wrapper}", Ok::<_, ()>(parts))
-        }
-        Err(error) => write_result(f, Err::<(), _>(error), true),
+    match error {
+        DurationError::UnknownUnit {
+            start,
+            end,
+            unit,
+            value,
+        } => all_agree(&[
+            is_itself,
+            error != unknown(start.wrapping_add(1), end, unit, value),
+            error != unknown(start, end.wrapping_add(1), unit, value),
+        ]),
+        _ => is_itself,
     }
 }
 
-/// Writes the canonical text of the text, or its error.
-pub(crate) fn print_again<W: fmt::Write>(f: &mut Formatter<W>, text: &str) -> fmt::Result {
-    write_result(f, canonical(text, &mut [0; 64]), true)
-}
-
-/// Writes the message of the text's error.
-pub(crate) fn explain<W: fmt::Write>(
-    f: &mut Formatter<W>,
-    text: &str,
-    wanted: &str,
-) -> fmt::Result {
-    write_message(f, parse_duration(text).err(), wanted, 5)
+fn unknown(start: usize, end: usize, unit: &str, value: u64) -> DurationError<'_> {
+    DurationError::UnknownUnit {
+        start,
+        end,
+        unit,
+        value,
+    }
 }
 
 /// Writes the messages of the two kinds of error that have an offset, with this offset.
 pub(crate) fn misplace<W: fmt::Write>(
     f: &mut Formatter<W>,
-    offset: &str,
+    at: usize,
     wanted: &str,
 ) -> fmt::Result {
-    let Ok(at) = offset.parse() else {
-        return no_result(f);
-    };
     let invalid = DurationError::InvalidCharacter(at);
     let expected = DurationError::NumberExpected(at);
     let (first, second) = wanted.split_once(", ").unwrap_or_default();
@@ -121,17 +92,11 @@ pub(crate) fn misplace<W: fmt::Write>(
     write_result(f, format_args!("{invalid}, {expected}"), is_agreed)
 }
 
-/// Writes the printed text of a duration of these seconds and nanoseconds.
-pub(crate) fn print<W: fmt::Write>(f: &mut Formatter<W>, numbers: &str) -> fmt::Result {
-    if let Some((secs, nanos)) = parts(numbers)
-        && let Some(value) = StdDuration::checked_new(secs, nanos)
-    {
-        let printed = format_duration(value);
-        let is_agreed = is_printed(value, printed.text(&mut [0; 64]));
-        write_result(f, format_args!("\"{printed}\""), is_agreed)
-    } else {
-        no_result(f)
-    }
+/// Writes the printed text of a duration.
+pub(crate) fn print<W: fmt::Write>(f: &mut Formatter<W>, value: StdDuration) -> fmt::Result {
+    let printed = format_duration(value);
+    let is_agreed = is_printed(value, printed.text(&mut [0; 64]));
+    write_result(f, format_args!("\"{printed}\""), is_agreed)
 }
 
 /// Returns whether every call that prints the duration prints this text, and the text is parsed to the duration.
@@ -155,4 +120,29 @@ fn is_printed(value: StdDuration, text: &str) -> bool {
 fn is_front(printed: &FormattedDuration, text: &str) -> bool {
     let mut buf = [b'x'; 64];
     printed.text(&mut buf) == text && buf.starts_with(text.as_bytes())
+}
+
+/// Writes the items of the text, and what three more calls return after the last one.
+pub(crate) fn split<W: fmt::Write>(f: &mut Formatter<W>, text: &str) -> fmt::Result {
+    let mut items = spans(text);
+    for item in items.by_ref() {
+        match item {
+            Ok(span) => write_span(f, span)?,
+            Err(error) => write!(f, "{:?}, ", Err::<(), _>(error))?,
+        }
+    }
+    let (first, second, third) = (items.next(), items.next(), items.next());
+    write!(f, "{first:?}, {second:?}, {third:?}")
+}
+
+/// Writes the number, the fraction and the unit of a span, its offsets and its value.
+fn write_span<W: fmt::Write>(f: &mut Formatter<W>, span: Span<'_>) -> fmt::Result {
+    let copy = span;
+    write!(f, "Ok((\"{}\", ", copy.number())?;
+    match copy.fraction() {
+        Some(fraction) => write!(f, "Some(\"{fraction}\")")?,
+        None => f.write_str("None")?,
+    }
+    let (start, end, value) = (span.start(), span.end(), span.value());
+    write!(f, ", \"{}\", {start}, {end}, {value})), ", copy.unit())
 }

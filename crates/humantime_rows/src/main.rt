@@ -1,74 +1,103 @@
-//! Compares the results of the library with the rows of a table, each of which has a call and its result.
+//! Compares the results of the library with the rows of a table, each of which has a call, its argument and its result.
 //!
-//! Standard input has a row in each line, such as `duration "2h 37min" = Ok((9420, 0))`. Empty lines and those that begin with `#` are
-//! skipped. A row after `wrong: ` is wrong on purpose: it has to differ, and is printed with the library's result, which shows that rows
-//! are compared. Any other row that differs is printed, too, and so is a wrong one that does not. The last lines count the rows that hold,
-//! for each call and all together.
+//! A line of standard input has rows with one result, such as `strict|weak "1970-01-01", "" = Err(InvalidFormat)`: one for each of its calls
+//! and each of its arguments. Empty lines and those that begin with `#` are skipped. Rows after `wrong: ` are wrong on purpose: they have to
+//! differ, and are printed with the library's result, which shows that rows are compared. Any other row that differs is printed, too, and so
+//! is a wrong one that does not. The last lines count the rows that hold, for each call and all together.
 #![tactic(auto)]
 
+mod calls;
 mod display;
 mod durations;
-mod order;
 mod row;
-mod spans;
-mod std_durations;
-mod system_times;
 mod timestamps;
+mod values;
 mod writing;
 
 // Tests use these modules as a library.
-pub use crate::row::{Row, unescape};
-use std::alloc::AllocError;
+pub use crate::display::is_written;
+pub use crate::row::{Row, split_line};
+use std::collections::BTreeMap;
 use std::io;
 use std::process::ExitCode;
 
 fn main(rt: HostRuntime) -> io::Result<ExitCode> {
-    let rows = io::read_to_string(rt.alloc(), rt.stdin())?;
-    let mut room = String::new(rt.alloc());
-    let mut counts = Vec::new(rt.alloc());
-    let (mut holds, mut differs, mut found) = (0_u64, 0_u64, 0_u64);
-    for line in rows.as_str().lines() {
-        if line.is_empty() || line.starts_with('#') {
-            continue;
-        }
-        let (text, is_wrong) = match line.strip_prefix("wrong: ") {
-            Some(text) => (text, true),
-            None => (line, false),
-        };
-        room.clear();
-        unescape(text, &mut room)?;
-        let row = Row::new(room.as_str());
-        match (row.holds(), is_wrong) {
-            (true, false) => {
-                count(&mut counts, line)?;
-                holds = holds.saturating_add(1);
-            }
-            (false, true) => {
-                println!(rt; "{line}; the result is {row}")?;
-                found = found.saturating_add(1);
-            }
-            _ => {
-                println!(rt; "{line}, but the result is {row}")?;
-                differs = differs.saturating_add(1);
-            }
+    let table = io::read_to_string(rt.alloc(), rt.stdin())?;
+    let mut tally = Tally {
+        room: String::new(rt.alloc()),
+        counts: BTreeMap::new(rt.alloc()),
+        differs: 0,
+        found: 0,
+    };
+    for line in table.as_str().lines() {
+        if !line.is_empty() && !line.starts_with('#') {
+            tally.try_line(&rt, line)?;
         }
     }
-    for (call, count) in &counts {
+    let mut holds = 0_u64;
+    for (call, count) in &tally.counts {
         println!(rt; "{call}: {count} rows hold")?;
+        holds = holds.saturating_add(*count);
     }
+    let (differs, found) = (tally.differs, tally.found);
     println!(rt; "{holds} rows hold, {differs} do not, {found} wrong ones differ")?;
     Ok(ExitCode::from(u8::from(differs > 0)))
 }
 
-/// Adds 1 to the count of the call of a row.
-fn count<'a>(counts: &mut Vec<(&'a str, u64)>, line: &'a str) -> Result<(), AllocError> {
-    let (call, _) = line.split_once(' ').unwrap_or_default();
-    for (name, count) in counts.iter_mut() {
-        if *name == call {
-            *count = count.saturating_add(1);
-            return Ok(());
+/// The rows that were tried.
+#[derive(Drop)]
+struct Tally<'a> {
+    /// The texts of a row.
+    room: String,
+    /// How many rows of each call hold.
+    counts: BTreeMap<&'a str, u64>,
+    /// How many rows differ, or are wrong on purpose and do not.
+    differs: u64,
+    /// How many rows are wrong on purpose and differ.
+    found: u64,
+}
+
+impl<'a> Tally<'a> {
+    /// Tries the rows of a line.
+    fn try_line(&mut self, rt: &impl Print, line: &'a str) -> io::Result<()> {
+        let rows = line.strip_prefix("wrong: ");
+        let (calls, arguments, wanted) = split_line(rows.unwrap_or(line));
+        for call in calls.split('|') {
+            self.try_call(rt, call, arguments, wanted, rows.is_some())?;
         }
+        Ok(())
     }
-    counts.push((call, 1))?;
-    Ok(())
+
+    /// Tries a call with each of these arguments.
+    fn try_call(
+        &mut self,
+        rt: &impl Print,
+        call: &'a str,
+        arguments: &str,
+        wanted: &str,
+        is_wrong: bool,
+    ) -> io::Result<()> {
+        for argument in arguments.split(", ") {
+            let row = Row::new(call, argument, wanted, &mut self.room)?;
+            let gap = if argument.is_empty() { "" } else { " " };
+            match (row.holds(), is_wrong) {
+                (true, false) => {
+                    let count = self.counts.entry(call)?.or_insert(0);
+                    *count = count.saturating_add(1);
+                }
+                (false, true) => {
+                    println!(rt; "wrong: {call}{gap}{argument} = {wanted}; the result is {row}")?;
+                    self.found = self.found.saturating_add(1);
+                }
+                (holds, _) => {
+                    let mark = if holds { "wrong: " } else { "" };
+                    println!(rt;
+                        "{mark}{call}{gap}{argument} = {wanted}, but the result is {row}"
+                    )?;
+                    self.differs = self.differs.saturating_add(1);
+                }
+            }
+        }
+        Ok(())
+    }
 }

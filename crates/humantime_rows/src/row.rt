@@ -1,27 +1,43 @@
-//! A row: its call, its arguments and its result.
+//! A row: a call, its argument and its result.
 
+use crate::calls::write_call;
 use crate::display::is_written;
-use crate::writing::unquoted;
-use crate::{durations, spans, std_durations, system_times, timestamps};
 use std::alloc::AllocError;
 use std::fmt::{self, Display, Formatter, Write};
 
 /// A row. Its `Display` writes the result that the library gives for its call.
 #[derive(Clone, Copy)]
 pub struct Row<'a> {
-    call: &'a str,
-    /// The arguments.
-    rest: &'a str,
+    pub(crate) call: &'a str,
+    /// A string in quotes, or numbers with spaces between them.
+    pub(crate) argument: &'a str,
     /// The result that the row says.
-    wanted: &'a str,
+    pub(crate) wanted: &'a str,
 }
 
 impl<'a> Row<'a> {
-    /// Parses a line.
-    pub fn new(line: &'a str) -> Row<'a> {
-        let (head, wanted) = line.rsplit_once(" = ").unwrap_or_default();
-        let (call, rest) = head.split_once(' ').unwrap_or((head, ""));
-        Row { call, rest, wanted }
+    /// Returns the row of a call, of an argument and of a result with escapes, which `room` holds without them.
+    pub fn new(
+        call: &'a str,
+        argument: &str,
+        wanted: &str,
+        room: &'a mut String,
+    ) -> Result<Row<'a>, AllocError> {
+        room.clear();
+        unescape(argument, room)?;
+        let end = room.len();
+        unescape(wanted, room)?;
+        Ok(Row {
+            call,
+            argument: room.get(..end).unwrap_or_default(),
+            wanted: room.get(end..).unwrap_or_default(),
+        })
+    }
+
+    /// Returns the string between the quotes of the argument.
+    pub fn text(self) -> &'a str {
+        let end = self.argument.len().saturating_sub(1);
+        self.argument.get(1..end).unwrap_or_default()
     }
 
     /// Returns whether the library gives the result that the row says.
@@ -32,34 +48,19 @@ impl<'a> Row<'a> {
 
 impl Display for Row<'_> {
     fn fmt<W: fmt::Write>(&self, f: &mut Formatter<W>) -> fmt::Result {
-        let Row { call, rest, wanted } = *self;
-        let text = unquoted(rest);
-        match call {
-            "duration" => durations::parse(f, text),
-            "canonical" => durations::print_again(f, text),
-            "message" => durations::explain(f, text, wanted),
-            "misplaced" => durations::misplace(f, rest, wanted),
-            "print" => durations::print(f, rest),
-            "spans" => spans::split(f, text),
-            "strict" => timestamps::parse_strictly(f, text),
-            "weak" => timestamps::parse_weakly(f, text),
-            "refusal" => timestamps::explain(f, text, wanted),
-            "day" => timestamps::number_day(f, rest),
-            "date" => timestamps::date_day(f, rest),
-            "Duration::from_str" => durations::wrap(f, text),
-            "Timestamp::from_str" => timestamps::wrap(f, text),
-            "UNIX_EPOCH" => system_times::write_call(f, call, rest),
-            _ => match call.split_once("::") {
-                Some(("StdDuration", name)) => std_durations::write_call(f, name, rest),
-                Some((_, name)) => system_times::write_call(f, name, rest),
-                None => timestamps::print(f, call, rest),
-            },
-        }
+        write_call(f, *self)
     }
 }
 
+/// Returns the calls of a line, their arguments and their result: each call has it with each argument.
+pub fn split_line(line: &str) -> (&str, &str, &str) {
+    let (head, wanted) = line.rsplit_once(" = ").unwrap_or_default();
+    let (calls, arguments) = head.split_once(' ').unwrap_or((head, ""));
+    (calls, arguments, wanted)
+}
+
 /// Writes the text with each `\u{HEX}` replaced by its character, up to the first one that is not valid.
-pub fn unescape(text: &str, out: &mut String) -> Result<(), AllocError> {
+fn unescape(text: &str, out: &mut String) -> Result<(), AllocError> {
     let mut rest = text;
     for _ in 0..text.len() {
         if let Some((before, behind)) = rest.split_once("\\u{")

@@ -1,8 +1,7 @@
-//! Writes results, and parses numbers.
+//! Writes results.
 
 use crate::display::is_always_written;
 use std::fmt::{self, Debug, Display, Formatter, Write};
-use std::str::FromStr;
 
 /// Returns whether all of these comparisons agree.
 pub(crate) fn all_agree(comparisons: &[bool]) -> bool {
@@ -42,33 +41,4 @@ pub(crate) fn write_message<W: fmt::Write, E: Display + Copy>(
         }
         None => no_result(f),
     }
-}
-
-/// Returns the text between quotes.
-pub(crate) fn unquoted(text: &str) -> &str {
-    let end = text.len().saturating_sub(1);
-    text.get(1..end).unwrap_or_default()
-}
-
-/// Parses two numbers with a space between them.
-pub(crate) fn parts<A: FromStr + Drop>(text: &str) -> Option<(A, u32)>
-where
-    A::Err: Drop,
-{
-    let (first, second) = text.split_once(' ').unwrap_or_default();
-    first.parse().ok().zip(second.parse().ok())
-}
-
-/// Parses four numbers with spaces between them, as two pairs.
-pub(crate) fn two_parts<A: FromStr + Drop, B: FromStr + Drop>(
-    text: &str,
-) -> Option<((A, u32), (B, u32))>
-where
-    A::Err: Drop,
-    B::Err: Drop,
-{
-    let (secs, rest) = text.split_once(' ')?;
-    let (nanos, rest) = rest.split_once(' ')?;
-    let first = secs.parse().ok().zip(nanos.parse().ok());
-    first.zip(parts(rest))
 }

@@ -1,0 +1,107 @@
+//! The calls that rows may have, and the library's result of each.
+
+use crate::row::Row;
+use crate::values::{Value, compare, differ, make, write_parsed, write_some, write_value};
+use crate::writing::{no_result, write_message, write_result};
+use crate::{durations, timestamps};
+use humantime::{
+    Date, Duration, StdDuration, SystemTime, Turns, UNIX_EPOCH, canonical, date_of_day, day_number,
+    parse_duration, parse_rfc3339, parse_rfc3339_weak,
+};
+use std::fmt::{self, Formatter, Write};
+use std::str::{FromStr, SplitWhitespace};
+
+/// Writes the result of a row's call, whose argument is a text in quotes or numbers.
+pub(crate) fn write_call<W: fmt::Write>(f: &mut Formatter<W>, row: Row<'_>) -> fmt::Result {
+    let text = row.text();
+    match row.call {
+        "duration" => durations::parse(f, text),
+        "canonical" => write_result(f, canonical(text, &mut [0; 64]), true),
+        "spans" => durations::split(f, text),
+        "message" => write_message(f, parse_duration(text).err(), row.wanted, 5),
+        "strict" => write_result(f, parse_rfc3339(text).map(|moment| moment.parts()), true),
+        "weak" => timestamps::parse_weakly(f, text),
+        "refusal" => write_message(f, parse_rfc3339_weak(text).err(), row.wanted, 1),
+        "Duration::from_str" => write_parsed::<_, StdDuration, _>(f, Duration::from_str(text)),
+        "Timestamp::from_str" => write_parsed::<_, SystemTime, _>(f, text.parse()),
+        _ => match of_numbers(f, row, &mut row.argument.split_whitespace()) {
+            Some(written) => written,
+            None => no_result(f),
+        },
+    }
+}
+
+/// Writes the result of a call with numbers, or returns `None` if no call has this name and these numbers.
+fn of_numbers<W: fmt::Write>(
+    f: &mut Formatter<W>,
+    row: Row<'_>,
+    numbers: &mut SplitWhitespace<'_>,
+) -> Option<fmt::Result> {
+    Some(match row.call {
+        "print" => durations::print(f, duration(numbers)?),
+        "misplaced" => durations::misplace(f, number(numbers)?, row.wanted),
+        "day" => write_result(f, day_number(date(numbers)?, &mut Turns::new()), true),
+        "date" => {
+            let date = date_of_day(number(numbers)?, &mut Turns::new());
+            write_result(f, date.map(|date| (date.year, date.month, date.day)), true)
+        }
+        "StdDuration::ZERO" => write_value(f, StdDuration::ZERO),
+        "StdDuration::MAX" => write_value(f, StdDuration::MAX),
+        "StdDuration::default" => {
+            let value = StdDuration::default();
+            write_result(
+                f,
+                value.parts(),
+                Duration::default() == Duration::new(value),
+            )
+        }
+        "StdDuration::checked_new" => make(f, number(numbers)?, number(numbers)?),
+        "StdDuration::from_secs" => write_value(f, StdDuration::from_secs(number(numbers)?)),
+        "StdDuration::from_micros" => write_value(f, StdDuration::from_micros(number(numbers)?)),
+        "StdDuration::checked_add" => {
+            write_some(f, duration(numbers)?.checked_add(duration(numbers)?))
+        }
+        "StdDuration::cmp" => compare(f, duration(numbers)?, duration(numbers)?),
+        "UNIX_EPOCH" => write_value(f, UNIX_EPOCH),
+        "SystemTime::from_parts" => {
+            write_some(
+                f,
+                SystemTime::from_parts(number(numbers)?, number(numbers)?),
+            )
+        }
+        "SystemTime::checked_add" => write_some(
+            f,
+            moment(numbers)?.checked_add(duration(numbers)?),
+        ),
+        "SystemTime::duration_since" => differ(f, moment(numbers)?, moment(numbers)?),
+        "SystemTime::cmp" => compare(f, moment(numbers)?, moment(numbers)?),
+        call => timestamps::print(f, call, moment(numbers)?)?,
+    })
+}
+
+/// Parses the next number.
+fn number<N: FromStr + Drop>(numbers: &mut SplitWhitespace<'_>) -> Option<N>
+where
+    N::Err: Drop,
+{
+    numbers.next()?.parse().ok()
+}
+
+/// Parses the seconds and nanoseconds of a duration.
+fn duration(numbers: &mut SplitWhitespace<'_>) -> Option<StdDuration> {
+    StdDuration::checked_new(number(numbers)?, number(numbers)?)
+}
+
+/// Parses the seconds and nanoseconds of a moment.
+fn moment(numbers: &mut SplitWhitespace<'_>) -> Option<SystemTime> {
+    SystemTime::from_parts(number(numbers)?, number(numbers)?)
+}
+
+/// Parses the year, the month and the day of a date.
+fn date(numbers: &mut SplitWhitespace<'_>) -> Option<Date> {
+    Some(Date {
+        year: number(numbers)?,
+        month: number(numbers)?,
+        day: number(numbers)?,
+    })
+}
