@@ -45,12 +45,9 @@ same_kind m n = (refl, refl)
 digits : (ds : List ℕ) → decimal_value ds ≡ digits_value 10 ds
 digits ds = refl
 
-no_zeros : without_trailing_zeros [] ≡ []
+trailing_zeros : (ds : List ℕ) → (without_trailing_zeros [] ≡ []) × (without_trailing_zeros (ds ++ codes "0") ≡ without_trailing_zeros ds)
 unfolding without_trailing_zeros
-no_zeros = refl
-
-last_zero : (ds : List ℕ) → without_trailing_zeros (ds ++ codes "0") ≡ without_trailing_zeros ds
-last_zero ds = significant_zero ds
+trailing_zeros ds = (refl, significant_zero ds)
 
 last_digit : (ds : List ℕ) (d : ℕ) → (d == byte "0") ≡ false → without_trailing_zeros (ds ++ d ∷ []) ≡ ds ++ d ∷ []
 last_digit ds d other = significant_last ds d other
@@ -69,15 +66,12 @@ any_number : (s : SpelledSpan) (unit : _) → scale_of_word s.word ≡ Some unit
     → fits s ≡ (small (decimal_value s.number * size unit.whole) && fraction_fits unit.part s.fraction)
 any_number s unit is = rw is refl
 
-no_fraction : (part : _) → fraction_fits part None ≡ true
-no_fraction part = refl
-
--- Without its trailing zeros, it denotes a whole number of what it is a part of, and its product with this fits 64 bits. Of a fraction of
--- nanoseconds nothing is left.
+-- Without its trailing zeros, a fraction denotes a whole number of what it is a part of, and its product with this fits 64 bits. Of a fraction
+-- of nanoseconds nothing is left.
 any_fraction : (part : _) (fs : List ℕ) → let ds = without_trailing_zeros fs in
     (fraction_fits (Some part) (Some fs) ≡ (small (decimal_value ds * size part) && (decimal_value ds * size part % 10 ^ length ds == 0)))
-    × (fraction_fits None (Some fs) ≡ (length ds == 0))
-any_fraction part fs = (refl, refl)
+    × (fraction_fits None (Some fs) ≡ (length ds == 0)) × (fraction_fits (Some part) None ≡ true) × (fraction_fits None None ≡ true)
+any_fraction part fs = (refl, refl, refl, refl)
 
 -- ---- limits of a sum
 
@@ -110,11 +104,9 @@ any_part : (part : _) (fs : List ℕ) → let ds = without_trailing_zeros fs in
     × (fraction_additions (Some part) None ≡ []) × (fraction_additions None (Some fs) ≡ []) × (fraction_additions None None ≡ [])
 any_part part fs = (refl, refl, refl, refl)
 
-any_additions : (s : SpelledSpan) (spans : List SpelledSpan) → additions (s ∷ spans) ≡ additions_of s ++ additions spans
-any_additions s spans = refl
-
-any_value : (spans : List SpelledSpan) → value spans ≡ sum_by quantity_nanos (additions spans)
-any_value spans = refl
+any_spans_add : (s : SpelledSpan) (spans : List SpelledSpan) → (additions (s ∷ spans) ≡ additions_of s ++ additions spans)
+    × (value spans ≡ sum_by quantity_nanos (additions spans))
+any_spans_add s spans = (refl, refl)
 
 -- ---- while trailing zeros of a fraction counted
 
@@ -160,12 +152,9 @@ plural : (n : ℕ) (unit : List ℕ) → (printed_count n (unit, true) ≡ decim
 plural n unit = (refl, refl)
 
 -- A text has the counts that are not zero, joined with single spaces.
-zero_count : (x : Suffix) (counts : List ℕ) (ends : List Suffix) → printed_counts (0 ∷ counts) (x ∷ ends) ≡ printed_counts counts ends
-zero_count x counts ends = refl
-
-other_count : (c : ℕ) (x : Suffix) (counts : List ℕ) (ends : List Suffix) → nat_lt 0 c ≡ true
-    → printed_counts (c ∷ counts) (x ∷ ends) ≡ printed_count c x ∷ printed_counts counts ends
-other_count c x counts ends some = rw some refl
+any_count : (c : ℕ) (x : Suffix) (counts : List ℕ) (ends : List Suffix) → (printed_counts (0 ∷ counts) (x ∷ ends) ≡ printed_counts counts ends)
+    × (nat_lt 0 c ≡ true → printed_counts (c ∷ counts) (x ∷ ends) ≡ printed_count c x ∷ printed_counts counts ends)
+any_count c x counts ends = (refl, λ some. rw some refl)
 
 space : (a b : List ℕ) (others : List (List ℕ)) → (joined_by_space [] ≡ codes "0s") × (joined_by_space (a ∷ []) ≡ a)
     × (joined_by_space (a ∷ b ∷ others) ≡ a ++ byte " " ∷ joined_by_space (b ∷ others))

@@ -15,18 +15,12 @@ use Rattle.humantime.proofs.Characters.{digit_is_numeric}
 
 -- ---- characters
 
-any_digit : (c : ℕ) → is_digit c ≡ (nat_le 48 c && nat_le c 57)
-unfolding is_digit
-any_digit c = refl
-
--- A letter is one of ASCII, the micro sign or Greek mu.
-any_letter : (c : ℕ) → is_letter c ≡ (((nat_le 65 c && nat_le c 90) || (nat_le 97 c && nat_le c 122)) || (c == 0xb5) || (c == 0x3bc))
-unfolding is_letter
-any_letter c = refl
-
-any_point : (c : ℕ) → is_point c ≡ (c == 46)
-unfolding is_point
-any_point c = refl
+-- A letter is one of ASCII, the micro sign or Greek mu. Only whitespace and points may lie outside the slices of spans.
+any_character : (c : ℕ) → (is_digit c ≡ (nat_le 48 c && nat_le c 57))
+    × (is_letter c ≡ (((nat_le 65 c && nat_le c 90) || (nat_le 97 c && nat_le c 122)) || (c == 0xb5) || (c == 0x3bc)))
+    × (is_point c ≡ (c == 46)) × (is_gap c ≡ (is_whitespace c || is_point c))
+unfolding is_digit is_letter is_point
+any_character c = (refl, refl, refl, refl)
 
 -- These characters are whitespace, and no others.
 any_whitespace : (c : ℕ) → is_whitespace c
@@ -35,10 +29,6 @@ any_whitespace : (c : ℕ) → is_whitespace c
     ∷ 0x2007 ∷ 0x2008 ∷ 0x2009 ∷ 0x200a ∷ 0x2028 ∷ 0x2029 ∷ 0x202f ∷ 0x205f ∷ 0x3000 ∷ []) c
 unfolding is_whitespace whitespace_chars
 any_whitespace c = refl
-
--- Only whitespace and points may lie outside the slices of spans.
-any_gap : (c : ℕ) → is_gap c ≡ (is_whitespace c || is_point c)
-any_gap c = refl
 
 -- A text without its whitespace keeps its other characters in order.
 no_whitespace : (text : List ℕ) → without_whitespace text ≡ filter (λ c. not (is_whitespace c)) text

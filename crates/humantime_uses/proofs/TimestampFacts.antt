@@ -102,18 +102,14 @@ any_moment f = refl
 -- ---- printing; `negsuc n` is n + 1 nanoseconds before 1970
 
 -- `format_rfc3339` prints no digits if the nanoseconds are zero, and otherwise nine.
-places_from_1970 : (n : ℕ) → places_of (pos n) ≡ (if n % 1_000_000_000 == 0 then 0 else 9)
-places_from_1970 n = refl
-
-places_before_1970 : (n : ℕ) → places_of (negsuc n) ≡ (if (n + 1) % 1_000_000_000 == 0 then 0 else 9)
-places_before_1970 n = grind (arith, nat_tests)
+any_places : (n : ℕ) → (places_of (pos n) ≡ (if n % 1_000_000_000 == 0 then 0 else 9))
+    × (places_of (negsuc n) ≡ (if (n + 1) % 1_000_000_000 == 0 then 0 else 9))
+any_places n = (refl, grind (arith, nat_tests))
 
 -- A moment is rounded down, also before 1970.
-cut_from_1970 : (n k : ℕ) → cut (pos n) k ≡ pos (n - n % 10 ^ (9 - k))
-cut_from_1970 n k = grind (arith, ints)
-
-cut_before_1970 : (n k : ℕ) → cut (negsuc n) k ≡ negsuc (n + (10 ^ (9 - k) - 1 - n % 10 ^ (9 - k)))
-cut_before_1970 n k = grind (arith, ints)
+any_cut : (n k : ℕ) → (cut (pos n) k ≡ pos (n - n % 10 ^ (9 - k)))
+    × (cut (negsuc n) k ≡ negsuc (n + (10 ^ (9 - k) - 1 - n % 10 ^ (9 - k))))
+any_cut n k = (grind (arith, ints), grind (arith, ints))
 
 -- Nothing else is asked of a printed text.
 printed_form : (t : ℤ) (k : ℕ) (text : List ℕ)

@@ -1,8 +1,8 @@
 //! Callers of `humantime_std`, whose results are known up to the limits of the types.
 
-ghost use Rattle.std.specs.Prelude.{◌≡◌, ◌≢◌, ◌+◌, ◌*◌, ◌/◌, ◌≤◌, ◌⊎◌, ◌↔◌, ◌∷◌, [], ◌+ℤ◌, ◌≤ℤ◌, ℤ, chars, min, pos, slice_range, option_map, Err, IfSome, IsNone, IsOk, IsTrue, None, Some, SomeIff};
+ghost use Rattle.std.specs.Prelude.{◌≡◌, ◌≢◌, ◌+◌, ◌*◌, ◌/◌, ◌≤◌, ◌⊎◌, ◌↔◌, ◌+ℤ◌, ◌≤ℤ◌, ℕ, ℤ, List, chars, min, pos, slice_range, option_map, Err, IfSome, IsNone, IsOk, IsTrue, None, Some, SomeIff};
 ghost use Rattle.std.specs.Time.{FitsClock, instant_nanos};
-ghost use Rattle.humantime.specs.Prelude.{Fault, duration_answer, moment_end};
+ghost use Rattle.humantime.specs.Prelude.{Fault, InvalidCharacter, NumberExpected, UnknownUnit, NumberOverflow, Empty, duration_answer, fault_of, moment_end};
 ghost use Rattle.humantime_std.specs.Located.{IsFaultRange, IsRangeIn, weak_error};
 ghost use Rattle.humantime_std.specs.Schedule.{IsDue, IsNextRun};
 
@@ -89,22 +89,15 @@ pub fn wrong_part(text: &str) -> Option<&str>
     Some(error.underline(text).part)
 }
 
-/// Returns the offset of an error of each variant, with these values.
-pub fn offsets(at: usize, end: usize, unit: &str, value: u64) -> [Option<usize>; 5]
-    ensures { result ≡ Some at ∷ Some at ∷ Some at ∷ None ∷ Some 0 ∷ [] }
+/// Returns the offset of an error, if it has one.
+pub fn error_offset(error: &DurationError<'_>) -> Option<usize>
+    ensures character { (at : ℕ) → fault_of error.now ≡ InvalidCharacter at → result ≡ Some at }
+    ensures number { (at : ℕ) → fault_of error.now ≡ NumberExpected at → result ≡ Some at }
+    ensures unit { (at : ℕ) (end : ℕ) (unit : List ℕ) (value : ℕ) → fault_of error.now ≡ UnknownUnit at end unit value → result ≡ Some at }
+    ensures overflow { fault_of error.now ≡ NumberOverflow → result ≡ None }
+    ensures empty { fault_of error.now ≡ Empty → result ≡ Some 0 }
 {
-    [
-        offset(&DurationError::InvalidCharacter(at)),
-        offset(&DurationError::NumberExpected(at)),
-        offset(&DurationError::UnknownUnit {
-            start: at,
-            end,
-            unit,
-            value,
-        }),
-        offset(&DurationError::NumberOverflow),
-        offset(&DurationError::Empty),
-    ]
+    offset(error)
 }
 
 /// Returns the bytes of a text that are wrong, or `None` if it is a duration.
