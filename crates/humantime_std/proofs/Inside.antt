@@ -1,20 +1,21 @@
--- The bytes of an error: numbers of two digits, what fits a layout, and that their range lies in the text, between characters.
-use Rattle.std.proofs.Common.{◌≡◌, ℕ, zero, suc, ◌+◌, ◌-◌, ◌*◌, ◌<◌, ◌≤◌, Some, List, [], ◌∷◌, length, get_or, drop, inl, inr, refl, add-one, lit<, arith}
-use Rattle.std.specs.Prelude.{⊤, true, Bool, ◌==◌, slice_index}
+-- The bytes of an error: numbers of two digits, what fits the layout, and that their range lies in the text, between characters.
+use Rattle.std.proofs.Common.{◌≡◌, ℕ, zero, suc, ◌+◌, ◌-◌, ◌*◌, ◌<◌, ◌≤◌, List, [], ◌∷◌, length, get_or, drop, add-one, arith, rules}
+use Rattle.std.specs.Prelude.{⊤, true, Bool, slice_index}
 use Rattle.std.specs.Char.{is_ascii_digit}
-use Rattle.std.specs.List.{common_prefix_len, prefix_len}
+use Rattle.std.specs.Bool.{Decides}
+use Rattle.std.specs.Int.{is_in_range}
+use Rattle.std.specs.List.{AllByRecursion, prefix_len, zip}
 use Rattle.std.specs.Str.{IsUtf8, IsCharBoundary}
-use Rattle.std.proofs.lemmas.Bool.{and_parts, cases_lt, cases_Bool}
+use Rattle.std.proofs.lemmas.Bool.{and_parts, cases_lt}
 use Rattle.std.proofs.lemmas.Bool.Decides.{nat_tests}
 use Rattle.std.proofs.lemmas.Grind.{common_steps}
-use Rattle.std.proofs.lemmas.List.{drop_all, get_or-drop, get_or_past, length-drop}
-use Rattle.std.proofs.lemmas.List.Sums.{common_prefix_len-drop_no, common_prefix_len-drop_yes, common_prefix_len-le, prefix_len-le-length, prefix_len_passes, prefix_len_stops}
+use Rattle.std.proofs.lemmas.List.{get_or-drop, get_or_past, length-drop}
+use Rattle.std.proofs.lemmas.List.Sums.{prefix_len-le-length, prefix_len_is, prefix_len_passes}
+use Rattle.std.proofs.lemmas.Slice.Zip.{length-zip}
 use Rattle.std.proofs.lemmas.Str.{IsCharBoundary-start, IsCharBoundary-end, IsCharBoundary-after_ascii}
-use Rattle.humantime.specs.declared.date.error.TimestampError.{TimestampError}
-use Rattle.humantime.specs.declared.date.error.TimestampError.TheVariants.{OutOfRange, InvalidDigit, InvalidFormat}
-use Rattle.humantime.specs.Timestamps.{first_failed, has_digits, has_two, number_between, strict_checks, weak_checks}
+use Rattle.humantime.specs.Timestamps.{has_digits, has_two, number_between}
 use Rattle.humantime.proofs.TimestampParts.{has_two_from_test, number_of_two, number_of_four}
-use Rattle.humantime_std.specs.Located.{IsRangeIn, char_end, error_range, fit_len, fits, fraction_end, is_continuation, timestamp_len, range_behind, wrong_field, zone_len}
+use Rattle.humantime_std.specs.Located.{IsRangeIn, char_end, fit_len, fits, fraction_end, layout, timestamp_len, wrong_field, zone_len}
 
 -- ---- Numbers
 
@@ -38,34 +39,25 @@ unfoldable pub fields_open : ⊤
 unfolding wrong_field has_digits
 fields_open = tt
 
--- A number is out of range only in a text that has its digits.
-pub weak_digits : (b : List ℕ) → first_failed (weak_checks b) ≡ Some OutOfRange → has_digits b ≡ true
-weak_digits b found = grind arith
+-- ---- What fits the layout
 
-pub strict_digits : (b : List ℕ) → first_failed (strict_checks b) ≡ Some OutOfRange → has_digits b ≡ true
-strict_digits b found = grind arith
+-- A byte that fits its place, and so is ASCII.
+fitting : (strict : Bool) (places b : List ℕ) (k : ℕ) → AllByRecursion (λ p. p < 128) places → k < prefix_len (λ p. fits strict p.0 p.1) (zip places b)
+    → (fits strict (get_or places k 0) (get_or b k 0) ≡ true) × (get_or b k 0 < 128)
+fitting strict (p ∷ ps) (c ∷ cs) zero ascii few = grind (arith, nat_tests)
+fitting strict (p ∷ ps) (c ∷ cs) (suc k) ascii few = grind (arith, (fitting strict ps cs k ascii.1))
+fitting strict places b k ascii few = absurd (grind arith)
 
--- ---- What fits a layout
-
-tied_to_none : (e : ℕ → ℕ → Bool) (xs : List ℕ) → common_prefix_len e xs [] ≡ 0
-tied_to_none e [] = refl
-tied_to_none e (x ∷ xs) = refl
-
--- At the end of one of the two lists, no more elements are tied.
-pub no_more_tied : (e : ℕ → ℕ → Bool) (xs ys : List ℕ) (i : ℕ) → length ys ≤ i → common_prefix_len e (drop i xs) (drop i ys) ≡ 0
-no_more_tied e xs ys i past = rw (drop_all i ys past) (tied_to_none e (drop i xs))
-
--- The steps of the loop that counts what fits.
-pub ruleset fit_steps = (common_steps, no_more_tied, common_prefix_len-drop_no, common_prefix_len-drop_yes)
+fitting_digits : (strict : Bool) (b : List ℕ) → fit_len strict b ≡ 19 → has_digits b ≡ true
+unfolding fit_len has_digits has_two
+fitting_digits strict b all =
+    let digit = λ (k : ℕ) (few : k < 19). (fitting strict layout b k (search rules) (omega (arith, all))).0 in
+    grind (arith, (digit 0), (digit 1), (digit 2), (digit 3), (digit 5), (digit 6), (digit 8), (digit 9), (digit 11), (digit 12), (digit 14), (digit 15), (digit 17), (digit 18))
 
 -- ---- Ranges
 
--- The end of a character is a boundary.
-end_of_char : (b : List ℕ) (at : ℕ) → at ≤ length b → IsCharBoundary b (char_end b at) × (at ≤ char_end b at)
-unfolding char_end
-end_of_char b at inside =
-    let n : ℕ = prefix_len is_continuation (drop (at + 1) b) in
-    grind (arith, nat_tests, (length-drop (at + 1) b), (prefix_len-le-length is_continuation (drop (at + 1) b)), (prefix_len_stops is_continuation (drop (at + 1) b) 0), (get_or-drop (at + 1) b n 0), (IsCharBoundary-end b))
+-- The start and the end of a text are boundaries.
+pub ruleset ends = (IsCharBoundary-start, IsCharBoundary-end)
 
 -- A place with an ASCII byte before it is a boundary.
 after_ascii : (b : List ℕ) (k : ℕ) → IsUtf8 b → k ≤ length b → (0 < k → get_or b (k - 1) 0 < 128) → IsCharBoundary b k
@@ -74,15 +66,15 @@ after_ascii b (suc k) utf8 inside ascii =
     let before : suc k - 1 ≡ k = omega arith in
     rw add-one at (IsCharBoundary-after_ascii b k utf8 (omega arith) (rw before at (ascii (omega arith))))
 
--- The bytes that fit a layout of ASCII are ASCII.
-abbrev pub AllAscii : List ℕ → Type 0
-AllAscii [] = Unit {0}
-AllAscii (p ∷ ps) = (p < 128) × AllAscii ps
-
-fitting_ascii : (layout b : List ℕ) (k : ℕ) → AllAscii layout → k < common_prefix_len fits layout b → get_or b k 0 < 128
-fitting_ascii (p ∷ ps) (c ∷ cs) zero ascii few = grind (arith, nat_tests)
-fitting_ascii (p ∷ ps) (c ∷ cs) (suc k) ascii few = grind (arith, (fitting_ascii ps cs k ascii.1))
-fitting_ascii layout b k ascii few = grind arith
+-- What fits the layout is ASCII, and within the text and the layout.
+pub fit_inside : (strict : Bool) (b : List ℕ) → IsUtf8 b → (fit_len strict b ≤ 19) × (fit_len strict b ≤ length b)
+    × ((k : ℕ) → k < fit_len strict b → get_or b k 0 < 128) × ((k : ℕ) → k ≤ fit_len strict b → IsCharBoundary b k) × (fit_len strict b ≡ 19 → has_digits b ≡ true)
+unfolding fit_len
+fit_inside strict b utf8 =
+    let within = prefix_len-le-length (λ (p : ℕ × ℕ). fits strict p.0 p.1) (zip layout b) in
+    let size = length-zip layout b in
+    let ascii = λ (k : ℕ) (few : k < fit_len strict b). (fitting strict layout b k (search rules) few).1 in
+    (omega arith, omega arith, ascii, λ k few. after_ascii b k utf8 (omega arith) (λ some. ascii (k - 1) (omega arith)), fitting_digits strict b)
 
 -- The seconds, or the fraction, end with an ASCII byte.
 fraction_ascii : (b : List ℕ) → 19 ≤ length b → get_or b 18 0 < 128
@@ -103,7 +95,7 @@ zone_ascii [] = (omega arith, λ some. absurd (omega (arith, some)))
 zone_ascii (c0 ∷ c1 ∷ c2 ∷ c3 ∷ c4 ∷ c5 ∷ rest) = grind (arith, nat_tests)
 zone_ascii (c ∷ rest) = grind (arith, nat_tests)
 
-timestamp_inside : (b : List ℕ) → IsUtf8 b → 19 ≤ length b → get_or b 18 0 < 128 → IsRangeIn b (timestamp_len b) (length b)
+pub timestamp_inside : (b : List ℕ) → IsUtf8 b → 19 ≤ length b → get_or b 18 0 < 128 → IsRangeIn b (timestamp_len b) (length b)
 timestamp_inside b utf8 long seconds =
     let from : ℕ = fraction_end b in
     let n : ℕ = zone_len (drop from b) in
@@ -111,44 +103,16 @@ timestamp_inside b utf8 long seconds =
     let none : n ≡ 0 → from + n - 1 ≡ from - 1 = λ no. omega arith in
     grind (arith, (fraction_ascii b long seconds), (zone_ascii (drop from b)), (length-drop from b), (get_or-drop from b (n - 1) 0), (IsCharBoundary-end b), (after_ascii b (from + n) utf8), (some), (none))
 
-field_few : (b : List ℕ) → ((wrong_field b).0 ≤ (wrong_field b).1) × ((wrong_field b).1 ≤ 19)
-unfolding wrong_field
-field_few b = grind arith
+-- A byte inside a character continues it.
+continues : (b : List ℕ) (i : ℕ) → i < length b → Decides (is_in_range 128 191 (get_or b i 0)) (¬ (IsCharBoundary b i))
+continues b i some = grind (arith, nat_tests)
 
-field_inside : (b : List ℕ) → IsUtf8 b → 19 ≤ length b → ((k : ℕ) → k < 19 → get_or b k 0 < 128) → IsRangeIn b (wrong_field b).0 (wrong_field b).1
-field_inside b utf8 long ascii = grind (arith, (field_few b), (after_ascii b (wrong_field b).0 utf8), (after_ascii b (wrong_field b).1 utf8), (ascii ((wrong_field b).0 - 1)), (ascii ((wrong_field b).1 - 1)))
-
--- A range of an error is in the text.
-pub range_inside : (layout b : List ℕ) (e : TimestampError) → AllAscii layout → IsUtf8 b → IsRangeIn b (error_range layout b e).0 (error_range layout b e).1
-unfolding fit_len
-range_inside layout b e places utf8 =
-    let n : ℕ = common_prefix_len fits layout b in
-    let ascii : (k : ℕ) → k < n → get_or b k 0 < 128 = λ k few. fitting_ascii layout b k places few in
-    let within : n ≤ length b = (common_prefix_len-le fits layout b).1 in
-    elim (cases_Bool (n == 19)) [
-      | inl all ↦
-          let same : n ≡ 19 = grind (arith, nat_tests) in
-          let long : 19 ≤ length b = omega (arith, same, within) in
-          let digits : (k : ℕ) → k < 19 → get_or b k 0 < 128 = λ k few. ascii k (omega (arith, same)) in
-          rw all (elim e as (λ x. IsRangeIn b (range_behind b x).0 (range_behind b x).1) [
-            | OutOfRange ↦ field_inside b utf8 long digits
-            | InvalidDigit ↦ timestamp_inside b utf8 long (digits 18 (lit< tt))
-            | InvalidFormat ↦ timestamp_inside b utf8 long (digits 18 (lit< tt))
-          ])
-      | inr some ↦
-          let end = end_of_char b n within in
-          rw some (record { order = end.1; at_start = after_ascii b n utf8 within (λ more. ascii (n - 1) (omega arith)); at_end = end.0 })
-    ]
-
--- ---- Durations
-
-pub character_inside : (b : List ℕ) (at : ℕ) → at < length b → IsCharBoundary b at → IsRangeIn b at (char_end b at)
-character_inside b at some boundary =
-    let end = end_of_char b at (omega arith) in
-    record { order = end.1; at_start = boundary; at_end = end.0 }
-
-pub whole_inside : (b : List ℕ) → IsUtf8 b → IsRangeIn b 0 (length b)
-whole_inside b utf8 = record { order = omega arith; at_start = IsCharBoundary-start b utf8; at_end = IsCharBoundary-end b }
+-- The first boundary after an offset is the end of the character there.
+pub char_end_is : (b : List ℕ) (at end : ℕ) → at ≤ length b → (at + 1 ≤ length b → at + 1 ≤ end) → IsCharBoundary b end
+    → ((i : ℕ) → at + 1 ≤ i → i < end → ¬ (IsCharBoundary b i)) → (length b < at + 1 → end ≡ length b) → end ≡ char_end b at
+unfolding char_end
+char_end_is b at end inside bound boundary nearest beyond =
+    grind (arith, (continues b), (length-drop (at + 1) b), (get_or-drop (at + 1) b), (prefix_len_is (is_in_range 128 191) (drop (at + 1) b) (end - (at + 1)) 0))
 
 -- ---- Marks
 

@@ -1,30 +1,35 @@
 -- The first span up to whose end a text overflows.
-use Rattle.std.proofs.Common.{◌≡◌, ℕ, zero, suc, ◌+◌, ◌-◌, ◌≤◌, true, false, Bool, List, [], ◌∷◌, ◌++◌, length, map, take, drop, Option, Some, None, Result, Ok, Err, IsUtf8, IsCharBoundary, chars, refl, sym, ap, ◌∙◌, inl, inr, arith, append_assoc, length-append}
-use Rattle.std.specs.Prelude.{slice_get, encode_utf8_all, option_map}
+use Rattle.std.proofs.Common.{◌≡◌, ◌↔◌, ℕ, zero, suc, ◌-◌, ◌<◌, ◌≤◌, true, List, [], ◌∷◌, ◌++◌, length, map, take, drop, get_or, Option, Some, None, Result, Ok, Err, IsUtf8, IsCharBoundary, chars, refl, sym, ap, ◌∙◌, inl, inr, arith, append_assoc, append-nil, length-append}
+use Rattle.std.specs.Prelude.{slice_get, encode_utf8_all, option_map, IsOk}
 use Rattle.std.specs.Iterator.{SkipsThenYields}
+use Rattle.std.specs.Option.{option_and_then}
+use Rattle.std.specs.Result.{result_ok}
 use Rattle.std.specs.Str.{trim_start}
 use Rattle.std.proofs.Math.Utf8.{scalars}
 use Rattle.std.proofs.lemmas.Iterator.Consumers.{YieldsList-from_shown, nth_from_yields_List}
 use Rattle.std.proofs.lemmas.Grind.{common_steps}
-use Rattle.std.proofs.lemmas.Str.{IsCharBoundary-at_seam, IsUtf8-take, IsUtf8-drop, chars_from_encodes, encodes-append, encodes-chars, length-le-encodes, scalars-chars}
+use Rattle.std.proofs.Math.Seq.{take-suc}
+use Rattle.std.proofs.lemmas.List.{map-append}
+use Rattle.std.proofs.lemmas.Option.{gets}
+use Rattle.std.proofs.lemmas.Str.{IsCharBoundary-at_seam, IsCharBoundary-end, IsUtf8-take, IsUtf8-drop, chars_from_encodes, encodes-append, encodes-chars, length-le-encodes, scalars-chars}
 use Rattle.humantime.specs.Characters.{take_while, is_whitespace, is_numeric, is_point, drop_while, offset_of}
-use Rattle.humantime.specs.Durations.{SpelledSpan, Spells, SpellsAll, Reads, Formed, SumOf, WithinLimits, too_long, value}
-use Rattle.humantime.specs.DurationErrors.{BeginsSpan, Empty, Fault, HasFault, NumberOverflow, OnlyWhitespace, after_number, after_word, span_of, word_of}
-use Rattle.humantime.specs.Items.{AreItems, Items, EndsOrStops, SpanView, items_of}
+use Rattle.humantime.specs.Durations.{SpelledSpan, Spells, SpellsAll, Reads, SumOf, WithinLimits, too_long, value}
+use Rattle.humantime.specs.DurationErrors.{BeginsSpan, Fault, HasFault, IsRangeIn, NumberOverflow, Split, after_number, after_word, span_of, word_of}
+use Rattle.humantime.specs.Items.{AreItems, Items, SpanView, items_of}
 use Rattle.humantime.specs.SpanResults.{GivesItem, item_of, items_left, span_view}
 use Rattle.humantime.specs.declared.duration.error.DurationError.{DurationError}
 use Rattle.humantime.specs.declared.duration.iter.SpanIter.{SpanIter}
 use Rattle.humantime.specs.declared.duration.span.Span.{Span}
-use Rattle.humantime.specs.DurationResults.{duration_answer, left_at, view_at}
-use Rattle.humantime.specs.Walks.{fault_at, walk_of}
-use Rattle.humantime.proofs.Outcomes.{accepted_spans, accepted_from_outcome, items_decide_fault, items_decide_value, outcome_accepted, outcome_fault}
-use Rattle.humantime.proofs.Characters.{begins-drop_while, drop_while_shorter, ends-append, take_while-drop_while, take_while-only}
-use Rattle.humantime.proofs.TextWalks.{IsReadTo, walk-end, walk-right, walk-wrong}
-use Rattle.humantime.proofs.Spellings.{next_smaller, point_and_digits, each-append, spells_each-append, fine_goes, is_fine, wrong_stops, written_here}
+use Rattle.humantime.specs.DurationResults.{IsDurationAnswer, view_at}
+use Rattle.humantime.specs.Walks.{walk_of}
+use Rattle.humantime.proofs.Outcomes.{accepted_spans, items_decide_fault, items_decide_value, outcome_accepted, outcome_fault}
+use Rattle.humantime.proofs.Characters.{begins-drop_while, drop_while_shorter, take_while-drop_while, take_while-only}
+use Rattle.humantime.proofs.TextWalks.{Steps, by_walk, items_found_at}
+use Rattle.humantime.proofs.Spellings.{is_fine, next_of, next_smaller, point_and_digits, spells_each-append, written_here}
 use Rattle.humantime.proofs.Sums.{within_tells}
 use Rattle.humantime.proofs.Items.{one_span_view}
 use Rattle.humantime.proofs.Slices.{next_bytes, start_trimmed}
-use Rattle.humantime_std.specs.Located.{BeginsSpans, Fit, IsRangeIn, IsSpanAfter, OverflowsAt, first_spans, rest_after, span_end, start_after}
+use Rattle.humantime_std.specs.Located.{Fit, OverflowsAt, rest_at, span_at, start_at}
 
 -- ---- Offsets
 
@@ -55,136 +60,147 @@ trimmed_at bs tail t rest utf8 other is same =
     let bytes = ap length (encodes-chars t other) in
     rw (← left) (omega (arith, whole, bytes))
 
--- ---- The items of a text
+-- ---- The spans of a text
 
--- After whole spans, the items are those of the rest.
-items_from : (k : ℕ) (text : List ℕ) → BeginsSpans k text
-    → (first : Bool) × ((j n : ℕ) → n ≡ k + j → slice_get (left_at true text (drop_while is_whitespace text)) n ≡ slice_get (left_at first text (rest_after k text)) j)
-items_from zero text b = (true, λ j n is. let same : n ≡ j = omega arith in rw same refl)
-items_from (suc k) text b =
-    let before = items_from k text b.0 in
-    let here = walk-right before.0 text (rest_after k text) (fine_goes text (rest_after k text) b.1) in
-    (false, λ j n is. before.1 (suc j) n (omega arith) ∙ grind (arith, here))
+ok_at : (xs : List SpanView) (stop : Option Fault) (k : ℕ) → option_and_then result_ok (slice_get (items_of xs stop) k) ≡ slice_get xs k
+ok_at [] None k = refl
+ok_at [] (Some e) zero = refl
+ok_at [] (Some e) (suc k) = refl
+ok_at (x ∷ xs) stop zero = refl
+ok_at (x ∷ xs) stop (suc k) = ok_at xs stop k
 
--- The item at an index is a span exactly if so many spans precede it.
-span_at : (k : ℕ) (text : List ℕ) → BeginsSpans (suc k) text
-    → slice_get (left_at true text (drop_while is_whitespace text)) k ≡ Some (Ok (view_at text (rest_after k text)))
-span_at k text b =
-    let here = items_from k text b.0 in
-    here.1 0 k (omega arith) ∙ grind (arith, (walk-right here.0 text (rest_after k text) (fine_goes text (rest_after k text) b.1)))
+ok_view : (r : Option (Result Span DurationError)) → option_map span_view (option_and_then result_ok r) ≡ option_and_then result_ok (option_map item_of r)
+ok_view r = grind arith
 
-begins_here : (first : Bool) (text rest : List ℕ) (x : SpanView) → slice_get (left_at first text rest) 0 ≡ Some (Ok x) → BeginsSpan rest
-begins_here first text [] x h = grind (arith, (walk-end first text))
-begins_here first text (c ∷ cs) x h = grind (arith, (walk-wrong first text (c ∷ cs)), (is_fine text (c ∷ cs)))
-
--- Only the last item can be an error.
-span_before : (xs : List SpanView) (stop : Option Fault) (k : ℕ) (x : SpanView) → slice_get (items_of xs stop) (suc k) ≡ Some (Ok x)
-    → (y : SpanView) × (slice_get (items_of xs stop) k ≡ Some (Ok y))
-span_before (x ∷ xs) stop zero y h = (x, refl)
-span_before (x ∷ xs) stop (suc k) y h = span_before xs stop k y h
-span_before [] stop k y h = grind arith
-
-begins_at : (k : ℕ) (text : List ℕ) (x : SpanView) → slice_get (left_at true text (drop_while is_whitespace text)) k ≡ Some (Ok x) → BeginsSpans (suc k) text
-begins_at zero text x h = (tt, begins_here true text (drop_while is_whitespace text) x h)
-begins_at (suc k) text x h =
-    let before = span_before (map (view_at text) (walk_of text).starts) (walk_of text).stop k x h in
-    let begins = begins_at k text before.0 before.1 in
-    let here = items_from (suc k) text begins in
-    (begins, begins_here here.0 text (rest_after (suc k) text) x (sym (here.1 0 (suc k) (omega arith)) ∙ h))
-
--- What `nth` of the spans returned: the span after so many, or something else, and no span is there.
-abbrev pub IsNth : List ℕ → ℕ → Option (Result Span DurationError) → Type 0
-IsNth text k (Some (Ok s)) = IsSpanAfter text k (span_view s).start (span_view s).end
-IsNth text k _ = ¬ (BeginsSpans (suc k) text)
-
-listed : (text : List ℕ) (k : ℕ) (r : Option (Result Span DurationError)) → option_map item_of r ≡ slice_get (left_at true text (drop_while is_whitespace text)) k
-    → IsNth text k r
-listed text k None h = λ begins. let view = span_at k text begins in absurd (cc)
-listed text k (Some (Err e)) h = λ begins. let view = span_at k text begins in absurd (cc)
-listed text k (Some (Ok s)) h =
-    let begins = begins_at k text (span_view s) (sym h) in
-    let view = span_at k text begins in
-    let same : span_view s ≡ view_at text (rest_after k text) = cc in
-    record { begins = begins; at_start = ap (λ (x : SpanView). x.start) same; at_end = ap (λ (x : SpanView). x.end) same }
-
-pub nth_is : (text : List ℕ) (it u : SpanIter) (r : Option (Result Span DurationError)) (k : ℕ) → AreItems text (items_left it) → SkipsThenYields GivesItem it k r u → IsNth text k r
+-- What `nth` of the spans returned, if it is no error, is the span at this index.
+pub nth_is : (text : List ℕ) (it u : SpanIter) (r : Option (Result Span DurationError)) (k : ℕ) → AreItems text (items_left it) → SkipsThenYields GivesItem it k r u
+    → option_map span_view (option_and_then result_ok r) ≡ span_at k text
 nth_is text it u r k are ran =
-    listed text k r (nth_from_yields_List r u k ran (YieldsList-from_shown GivesItem item_of items_left (λ s t g. ap length g.0.0) (λ s x t g. g.0) it)
-    ∙ ap (λ (l : List (Result SpanView Fault)). slice_get l k) (one_span_view text (items_left it) are))
+    let item = nth_from_yields_List r u k ran (YieldsList-from_shown GivesItem item_of items_left (λ s t g. ap length g.0.0) (λ s x t g. g.0) it) in
+    ok_view r ∙ ap (option_and_then result_ok) (item ∙ ap (λ (l : List (Result SpanView Fault)). slice_get l k) (one_span_view text (items_left it) are)) ∙ ok_at _ _ k
 
 -- ---- What is read
-
--- The spans of a text before a rest are read, and one more if a span begins there.
-abbrev IsRead : List ℕ → List SpelledSpan → List ℕ → Type 0
-IsRead text spans rest = (front : List ℕ) × IsReadTo text front spans rest
 
 with_span : (front here : List ℕ) (spans : List SpelledSpan) (s : SpelledSpan) → SpellsAll front spans → Spells here s [] → SpellsAll (front ++ here) (spans ++ s ∷ [])
 with_span front here spans s h one = grind (arith, common_steps, (spells_each-append h.body here spans (s ∷ []) h.each ([], one, refl)))
 
-read_one : (text rest : List ℕ) (spans : List SpelledSpan) → IsRead text spans rest → BeginsSpan rest → IsRead text (spans ++ span_of rest ∷ []) (drop_while is_whitespace (after_word rest))
-read_one text rest spans r b =
+-- One more span is read.
+read_one : (text front rest : List ℕ) (spans : List SpelledSpan) → Split text front spans rest → BeginsSpan rest
+    → (more : List ℕ) × Split text more (spans ++ span_of rest ∷ []) (next_of rest)
+read_one text front rest spans r b =
     let w = written_here rest b in
-    let each = with_span r.0 w.0 spans (span_of rest) r.1.split.spelled w.2 in
-    let formed = each-append Formed spans (span_of rest ∷ []) r.1.formed in
-    (r.0 ++ w.0, grind (arith, common_steps, w, (each), formed, (begins-drop_while is_whitespace), (ends-append is_whitespace r.0 w.0)))
+    let each = with_span front w.0 spans (span_of rest) r.spelled w.2 in
+    (front ++ w.0, grind (arith, common_steps, w, (each), (begins-drop_while is_whitespace)))
 
-read_first : (k : ℕ) (text : List ℕ) → BeginsSpans k text → IsRead text (first_spans k text) (rest_after k text)
-read_first zero text b = (take_while is_whitespace text, grind (arith, common_steps, take_while-drop_while, take_while-only, begins-drop_while))
-read_first (suc k) text b = read_one text (rest_after k text) (first_spans k text) (read_first k text b.0) b.1
+-- Each rest is what follows the span at the one before it, and `end` is the last one.
+abbrev Follows : List ℕ → List (List ℕ) → List ℕ → Type 0
+Follows rest [] end = rest ≡ end
+Follows rest (r ∷ rs) end = (rest ≡ r) × BeginsSpan r × Follows (next_of r) rs end
+
+walked : (text : List ℕ) → Follows (drop_while is_whitespace text) (walk_of text).starts (walk_of text).rest
+walked text =
+    let steps : Steps text (λ first rest w. Follows rest w.starts w.rest) = grind (arith, is_fine) in
+    by_walk text _ steps true (drop_while is_whitespace text)
+
+-- The text up to a rest is the spans before it.
+split_on : (text front rest : List ℕ) (spans : List SpelledSpan) (rs : List (List ℕ)) (end : List ℕ) (k : ℕ) → Split text front spans rest → Follows rest rs end
+    → (before : List ℕ) × Split text before (spans ++ map span_of (take k rs)) (get_or rs k end)
+split_on text front rest spans [] end zero h f = (front, rw (append-nil spans, ← f) h)
+split_on text front rest spans [] end (suc k) h f = (front, rw (append-nil spans, ← f) h)
+split_on text front rest spans (r ∷ rs) end zero h f = (front, rw (append-nil spans, ← f.0) h)
+split_on text front rest spans (r ∷ rs) end (suc k) h f =
+    let one = read_one text front r spans (rw (f.0) at h) f.1 in
+    rw append_assoc at (split_on text one.0 (next_of r) (spans ++ span_of r ∷ []) rs end k one.1 f.2)
+
+split_at : (text : List ℕ) (k : ℕ) → (front : List ℕ) × Split text front (map span_of (take k (walk_of text).starts)) (rest_at k text)
+split_at text k =
+    let start : Split text (take_while is_whitespace text) [] (drop_while is_whitespace text) = grind (arith, common_steps, take_while-drop_while, take_while-only, begins-drop_while) in
+    split_on text (take_while is_whitespace text) (drop_while is_whitespace text) [] (walk_of text).starts (walk_of text).rest k start (walked text)
+
+start_on : (rest : List ℕ) (rs : List (List ℕ)) (end : List ℕ) → Follows rest rs end → get_or rs 0 end ≡ rest
+start_on rest [] end f = sym f
+start_on rest (r ∷ rs) end f = sym f.0
+
+-- A span begins at each rest but the last one, and the next rest follows it.
+next_on : (rest : List ℕ) (rs : List (List ℕ)) (end : List ℕ) (k : ℕ) → Follows rest rs end → k < length rs
+    → BeginsSpan (get_or rs k end) × (get_or rs (suc k) end ≡ next_of (get_or rs k end))
+next_on rest (r ∷ []) end zero f some = (f.1, sym f.2)
+next_on rest (r ∷ q ∷ rs) end zero f some = (f.1, sym f.2.0)
+next_on rest (r ∷ rs) end (suc k) f some = next_on (next_of r) rs end k f.2 (omega arith)
+next_on rest [] end k f some = absurd (omega arith)
+
+pub next_at : (text : List ℕ) (k : ℕ) → k < length (walk_of text).starts → BeginsSpan (rest_at k text) × (rest_at (suc k) text ≡ next_of (rest_at k text))
+next_at text k some = next_on _ _ _ k (walked text) some
+
+pub start_of_first : (text : List ℕ) → rest_at 0 text ≡ drop_while is_whitespace text
+start_of_first text = start_on _ _ _ (walked text)
 
 -- Each span has a character.
-few_spans : (k : ℕ) (text : List ℕ) → BeginsSpans k text → k + length (rest_after k text) ≤ length text
-few_spans zero text b = omega (arith, drop_while_shorter is_whitespace text)
-few_spans (suc k) text b = omega (arith, few_spans k text b.0, next_smaller (rest_after k text) b.1.number.digit)
+few_on : (rest : List ℕ) (rs : List (List ℕ)) (end : List ℕ) → Follows rest rs end → length rs ≤ length rest
+few_on rest [] end f = omega arith
+few_on rest (r ∷ rs) end f = omega (arith, few_on (next_of r) rs end f.2, next_smaller r f.1.number.digit, ap length f.0)
+
+-- No text has as many spans as bytes and one more.
+pub too_many : (bs : List ℕ) → IsUtf8 bs → ¬ (Fit (chars bs) (suc (length bs)))
+too_many bs utf8 fit =
+    let few = few_on _ _ _ (walked (chars bs)) in
+    absurd (omega (arith, few, fit.begins, drop_while_shorter is_whitespace (chars bs), length-le-encodes (chars bs), ap length (encodes-chars bs utf8)))
+
+pub none_fits : (text : List ℕ) → Fit text 0
+none_fits text = record { begins = omega arith; within = (within_tells [] tt).0 refl }
 
 -- ---- The ends of spans
+
+-- A span that is found is that at the start of the rest before it.
+pub span_is : (text : List ℕ) (k : ℕ) (o : Option Span) (s : Span) → option_map span_view o ≡ span_at k text → o ≡ Some s
+    → (k < length (walk_of text).starts) × (span_view s ≡ view_at text (rest_at k text))
+span_is text k o s found is = grind (arith, common_steps, gets)
+
+pub no_span : (text : List ℕ) (k : ℕ) (o : Option Span) → option_map span_view o ≡ span_at k text → o ≡ None → length (walk_of text).starts ≤ k
+no_span text k o found is = grind (arith, common_steps, gets)
 
 word_ends : (rest : List ℕ) → (before : List ℕ) × (rest ≡ before ++ after_word rest)
 unfolding is_point
 word_ends rest = (take_while is_numeric rest ++ (point_and_digits (after_number rest) ++ word_of rest), grind (arith, common_steps, take_while-drop_while))
 
--- What follows a span begins at a character.
-pub span_cut : (bs : List ℕ) (k : ℕ) → IsUtf8 bs → BeginsSpans (suc k) (chars bs)
-    → IsCharBoundary bs (span_end k (chars bs)) × (chars (drop (span_end k (chars bs)) bs) ≡ after_word (rest_after k (chars bs)))
-span_cut bs k utf8 b =
-    let r = read_first k (chars bs) b.0 in
-    let w = word_ends (rest_after k (chars bs)) in
-    let cut = cut_at bs (r.0 ++ w.0) (after_word (rest_after k (chars bs))) utf8 (grind (arith, append_assoc, r.1.split.whole, w.1)) in
-    (cut.0, cut.2)
+pub start_boundary : (bs : List ℕ) (k : ℕ) → IsUtf8 bs → IsCharBoundary bs (start_at k (chars bs))
+start_boundary bs k utf8 = let r = split_at (chars bs) k in (cut_at bs r.0 (rest_at k (chars bs)) utf8 r.1.whole).0
 
-pub after_span : (bs tail t : List ℕ) (k end : ℕ) → IsUtf8 bs → IsUtf8 t → BeginsSpans (suc k) (chars bs) → end ≡ span_end k (chars bs) → tail ≡ drop end bs → t ≡ trim_start tail
-    → length bs - length t ≡ start_after (suc k) (chars bs)
-after_span bs tail t k end utf8 other b at is trim =
-    trimmed_at bs tail t (after_word (rest_after k (chars bs))) utf8 other trim (rw (is, at) ((span_cut bs k utf8 b).1))
+pub end_inside : (bs : List ℕ) (k : ℕ) → IsUtf8 bs → IsRangeIn bs (start_at k (chars bs)) (length bs)
+end_inside bs k utf8 = let at = start_boundary bs k utf8 in (at.0, at, IsCharBoundary-end bs)
 
-pub rest_boundary : (bs : List ℕ) (k : ℕ) → IsUtf8 bs → BeginsSpans k (chars bs) → IsCharBoundary bs (start_after k (chars bs))
-rest_boundary bs k utf8 b = let r = read_first k (chars bs) b in (cut_at bs r.0 (rest_after k (chars bs)) utf8 r.1.split.whole).0
+-- A span that is found lies between characters, and what follows it is what follows its word.
+pub span_ends : (bs : List ℕ) (k : ℕ) (o : Option Span) (s : Span) → IsUtf8 bs → option_map span_view o ≡ span_at k (chars bs) → o ≡ Some s
+    → IsRangeIn bs s.start s.end × (chars (drop s.end bs) ≡ after_word (rest_at k (chars bs)))
+span_ends bs k o s utf8 found is =
+    let text = chars bs in
+    let at = span_is text k o s found is in
+    let begins = (next_at text k at.0).0 in
+    let r = split_at text k in
+    let w = word_ends (rest_at k text) in
+    let cut = cut_at bs (r.0 ++ w.0) (after_word (rest_at k text)) utf8 (grind (arith, append_assoc, r.1.whole, w.1)) in
+    let start : s.start ≡ start_at k text = ap (λ (x : SpanView). x.start) at.1 in
+    let end : s.end ≡ offset_of text (after_word (rest_at k text)) = ap (λ (x : SpanView). x.end) at.1 in
+    rw (start, end) ((omega (arith, next_bytes (rest_at k text) begins.number.digit), start_boundary bs k utf8, cut.0), cut.2)
 
-pub span_inside : (bs : List ℕ) (k start end : ℕ) → IsUtf8 bs → IsSpanAfter (chars bs) k start end → IsRangeIn bs start end
-span_inside bs k start end utf8 s =
-    let order : start_after k (chars bs) ≤ span_end k (chars bs) = omega (arith, next_bytes (rest_after k (chars bs)) s.begins.1.number.digit) in
-    rw (s.at_start, s.at_end) (record { order = order; at_start = rest_boundary bs k utf8 s.begins.0; at_end = (span_cut bs k utf8 s.begins).0 })
+-- What follows a span and the whitespace after it.
+pub next_start : (bs tail t : List ℕ) (k end : ℕ) (o : Option Span) (s : Span) → IsUtf8 bs → IsUtf8 t → option_map span_view o ≡ span_at k (chars bs) → o ≡ Some s
+    → end ≡ s.end → tail ≡ drop end bs → t ≡ trim_start tail → length bs - length t ≡ start_at (suc k) (chars bs)
+next_start bs tail t k end o s utf8 other found is at cut trim =
+    let next = (next_at (chars bs) k (span_is (chars bs) k o s found is).0).1 in
+    rw next (trimmed_at bs tail t (after_word (rest_at k (chars bs))) utf8 other trim (rw (cut, at) ((span_ends bs k o s utf8 found is).1)))
 
--- A front is accepted exactly if its spans are within the limits.
-front_reads : (bs : List ℕ) (k : ℕ) → IsUtf8 bs → BeginsSpans (suc k) (chars bs) → Reads (chars (take (start_after (suc k) (chars bs)) bs)) (first_spans (suc k) (chars bs))
-front_reads bs k utf8 b =
-    let r = read_first (suc k) (chars bs) b in
-    let cut = cut_at bs r.0 (rest_after (suc k) (chars bs)) utf8 r.1.split.whole in
-    (rw (cut.1) (r.1.split.spelled), λ none. grind (arith, (ap length none), length-append))
-
-pub front_fits : (bs : List ℕ) (k v : ℕ) → IsUtf8 bs → BeginsSpans (suc k) (chars bs) → duration_answer (chars (take (start_after (suc k) (chars bs)) bs)) ≡ Ok v → Fit (chars bs) (suc k)
-front_fits bs k v utf8 b h = record { begins = b; within = (accepted_spans _ _ v (front_reads bs k utf8 b) (accepted_from_outcome _ v h)).0 }
-
-pub fit_accepted : (bs : List ℕ) (k : ℕ) → IsUtf8 bs → Fit (chars bs) (suc k) → (v : ℕ) × (duration_answer (chars (take (start_after (suc k) (chars bs)) bs)) ≡ Ok v)
-fit_accepted bs k utf8 f = let spans = first_spans (suc k) (chars bs) in (value spans, outcome_accepted _ _ (SumOf spans (front_reads bs k utf8 f.begins) f.within refl))
-
--- No text has as many spans as bytes and one more.
-pub too_many : (bs : List ℕ) → IsUtf8 bs → ¬ (Fit (chars bs) (suc (length bs)))
-too_many bs utf8 fit =
-    absurd (omega (arith, few_spans (suc (length bs)) (chars bs) fit.begins, length-le-encodes (chars bs), ap length (encodes-chars bs utf8)))
-
-pub none_fits : (text : List ℕ) → Fit text 0
-none_fits text = record { begins = tt; within = (within_tells [] tt).0 refl }
+-- A front of whole spans is accepted if and only if they are within the limits.
+pub fit_decides : (bs front : List ℕ) (k end : ℕ) (r : Result ℕ DurationError) → IsUtf8 bs → k < length (walk_of (chars bs)).starts
+    → end ≡ start_at (suc k) (chars bs) → front ≡ take end bs → IsDurationAnswer front r → IsOk r ↔ Fit (chars bs) (suc k)
+fit_decides bs front k end r utf8 some at is answer =
+    let here = split_at (chars bs) (suc k) in
+    let cut = cut_at bs here.0 (rest_at (suc k) (chars bs)) utf8 here.1.whole in
+    let reads : Reads (chars front) (map span_of (take (suc k) (walk_of (chars bs)).starts)) = (rw (is, at, cut.1) (here.1.spelled), λ none. grind (arith, common_steps, (ap length none))) in
+    elim r as (λ x. IsDurationAnswer front x → IsOk x ↔ Fit (chars bs) (suc k)) [
+      | Ok v ↦ λ a. (λ ok. record { begins = omega arith; within = (accepted_spans _ _ v reads ((a.value v).0 refl)).0 }, λ fit. refl)
+      | Err e ↦ λ a. (λ no. absurd (cc), λ fit. let ok = (a.value _).1 (SumOf _ reads fit.within refl) in absurd (cc))
+    ] answer
 
 -- ---- The fault
 
@@ -197,39 +213,35 @@ stop_there text spans None h i within =
 stop_there text spans (Some e) h i within =
     grind (arith, (items_decide_fault text spans e i h.not_zero within), (outcome_fault text e), (outcome_fault text NumberOverflow h))
 
-stops_here : (text front rest : List ℕ) (spans : List SpelledSpan) → IsReadTo text front spans rest → ¬ (BeginsSpan rest) → (stop : Option Fault) × EndsOrStops text front spans rest stop
-stops_here text front [] [] r none = (Some Empty, OnlyWhitespace refl refl refl)
-stops_here text front [] (s ∷ ss) r none = (None, (refl, λ e. cc))
-stops_here text front (c ∷ cs) spans r none = by (fault_at text (c ∷ cs)) refl
-  where
-    by : (o : Option Fault) → fault_at text (c ∷ cs) ≡ o → (stop : Option Fault) × EndsOrStops text front spans (c ∷ cs) stop
-    by None at = absurd (none (is_fine text (c ∷ cs) at))
-    by (Some e) at = (Some e, wrong_stops text front spans (c ∷ cs) e (λ n. cc) (r.follows (λ n. cc)) at)
-
 -- If a text overflows, and only its first `k` spans are within the limits, it overflows at the next one.
-pub overflows_here : (text : List ℕ) (k : ℕ) → HasFault text NumberOverflow → Fit text k → ¬ (Fit text (suc k)) → BeginsSpans (suc k) text
-    → OverflowsAt text (start_after k text) (span_end k text)
-overflows_here text k h fit none begins =
-    let r = read_first k text fit.begins in
-    let beyond = λ (within : WithinLimits (first_spans (suc k) text)). none (record { begins = begins; within = within }) in
-    let short = begins.1.number.short in
+pub overflows_here : (text : List ℕ) (k : ℕ) (o : Option Span) (s : Span) → HasFault text NumberOverflow → Fit text k → ¬ (Fit text (suc k))
+    → option_map span_view o ≡ span_at k text → o ≡ Some s → OverflowsAt text s.start s.end
+overflows_here text k o s h fit beyond found is =
+    let at = span_is text k o s found is in
+    let begins = (next_at text k at.0).0 in
+    let before = split_at text k in
+    let spans = map span_of (take k (walk_of text).starts) in
+    let more : map span_of (take (suc k) (walk_of text).starts) ≡ spans ++ span_of (rest_at k text) ∷ [] = rw (take-suc (walk_of text).starts k (walk_of text).rest at.0, map-append) refl in
+    let over = λ (within : WithinLimits (spans ++ span_of (rest_at k text) ∷ [])). beyond (record { begins = omega arith; within = rw more within }) in
     record {
-      fault = record { not_zero = h.not_zero; front = r.0; rest = rest_after k text; spans = first_spans k text; split = r.1.split; within = fit.within; row = inr (record { span = begins.1; beyond = beyond; fault = refl }) };
-      at_start = refl;
-      at_end = rw short refl;
+      fault = record { not_zero = h.not_zero; front = before.0; rest = rest_at k text; spans = spans; split = before.1; within = fit.within; row = inr (record { span = begins; beyond = over; fault = refl }) };
+      at_start = ap (λ (x : SpanView). x.start) at.1;
+      at_end = rw (begins.number.short) (ap (λ (x : SpanView). x.end) at.1);
     }
 
-pub overflows_to_end : (bs : List ℕ) (k : ℕ) → IsUtf8 bs → HasFault (chars bs) NumberOverflow → Fit (chars bs) k → ¬ (BeginsSpans (suc k) (chars bs))
-    → OverflowsAt (chars bs) (start_after k (chars bs)) (length bs)
-overflows_to_end bs k utf8 h fit over =
+-- If all its spans are within the limits, it overflows at what follows them.
+pub overflows_to_end : (bs : List ℕ) (k : ℕ) (o : Option Span) → IsUtf8 bs → HasFault (chars bs) NumberOverflow → Fit (chars bs) k
+    → option_map span_view o ≡ span_at k (chars bs) → o ≡ None → OverflowsAt (chars bs) (start_at k (chars bs)) (length bs)
+overflows_to_end bs k o utf8 h fit found is =
     let text = chars bs in
-    let r = read_first k text fit.begins in
-    let stops = stops_here text r.0 (rest_after k text) (first_spans k text) r.1 (λ here. over (fit.begins, here)) in
-    let items : Items text (first_spans k text) stops.0 = record { front = r.0; rest = rest_after k text; split = r.1.split; formed = r.1.formed; ends = stops.1 } in
-    let row = rw (stop_there text (first_spans k text) stops.0 h items fit.within) at stops.1 in
-    let long : too_long (span_of (rest_after k text)) ≡ true = grind (arith, (row)) in
-    record {
-      fault = record { not_zero = h.not_zero; front = r.0; rest = rest_after k text; spans = first_spans k text; split = r.1.split; within = fit.within; row = inl row };
+    let items = items_found_at text in
+    let all : k ≡ length (walk_of text).starts = omega (arith, no_span text k o found is, fit.begins) in
+    let spans : map span_of (take k (walk_of text).starts) ≡ map span_of (walk_of text).starts = grind (arith, common_steps) in
+    let rest : rest_at k text ≡ items.0.rest = grind (arith, common_steps, (items.1)) in
+    let row = rw (stop_there text _ _ h items.0 (rw spans at fit.within)) at items.0.ends in
+    let long : too_long (span_of items.0.rest) ≡ true = grind (arith, (row)) in
+    rw rest (record {
+      fault = record { not_zero = h.not_zero; front = items.0.front; rest = items.0.rest; spans = map span_of (walk_of text).starts; split = items.0.split; within = rw spans at fit.within; row = inl row };
       at_start = refl;
       at_end = rw long (sym (ap length (encodes-chars bs utf8)));
-    }
+    })

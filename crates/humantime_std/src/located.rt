@@ -1,15 +1,14 @@
 //! The parsers of `humantime`, with errors that contain the range of the bytes that are wrong.
 
-ghost use Rattle.std.specs.Prelude.{◌≡◌, ◌+◌, ◌^◌, ◌<◌, ◌≤◌, chars, length, slice_range, suc, take, true, IfErr, IfNone, IfSome};
+ghost use Rattle.std.specs.Prelude.{◌≡◌, ◌+◌, ◌^◌, ◌<◌, ◌≤◌, ◌↔◌, chars, length, option_map, slice_index, slice_range, suc, take, true, ℕ, IfErr, IfSome, IsSome};
 ghost use Rattle.std.specs.Char.{is_ascii_digit};
 ghost use Rattle.std.specs.List.{prefix_len};
 ghost use Rattle.std.specs.Result.{result_err, result_map_both};
 ghost use Rattle.std.specs.Str.{IsCharBoundary};
-ghost use Rattle.humantime.specs.declared.date.error.TimestampError.TheVariants.{OutOfRange};
 ghost use Rattle.humantime.specs.Prelude.{HasFault, NumberOverflow, PointsInto, duration_answer, fault_of, span_view, strict_answer, weak_answer};
 ghost use Rattle.humantime.specs.Timestamps.{has_digits, has_two, number_between};
 ghost use Rattle.humantime_std.specs.Located as spec;
-ghost use Rattle.humantime_std.specs.Located.{BeginsSpans, Fit, IsFaultRange, IsRangeIn, IsSpanAfter, OverflowsAt, bounds, is_continuation, start_after, strict_error, weak_error};
+ghost use Rattle.humantime_std.specs.Located.{Fit, IsFaultRange, IsRangeIn, OverflowsAt, span_at, start_at, strict_error, weak_error};
 
 use humantime::{
     Date, DurationError, Span, StdDuration, SystemTime, TimestampError, Turns, day_number, spans,
@@ -145,14 +144,9 @@ fn fill<W: fmt::Write>(f: &mut fmt::Formatter<W>, text: &str, columns: usize) ->
     Ok(())
 }
 
-/// What can stand at each of the first 19 bytes: `0` is any digit, a space is a `T` or a space, and another byte is that byte.
-type Layout = [u8; 19];
-
-/// The layout of the weak format.
-static WEAK: Layout = *b"0000-00-00 00:00:00";
-
-/// The layout of the strict format.
-static STRICT: Layout = *b"0000-00-00T00:00:00";
+/// What can stand at each of the first 19 bytes: `0` is any digit, a space is a `T` or, in the weak format, a space, and another byte is
+/// that byte.
+static LAYOUT: [u8; 19] = *b"0000-00-00 00:00:00";
 
 /// Parses a duration as [`humantime::parse_duration`] does.
 ///
@@ -221,7 +215,7 @@ pub fn parse_rfc3339_weak(text: &str) -> Result<SystemTime, Located<TimestampErr
 {
     match humantime::parse_rfc3339_weak(text) {
         Ok(time) => Ok(time),
-        Err(error) => Err(error_in(&WEAK, text, error)),
+        Err(error) => Err(locate(text, error, false)),
     }
 }
 
@@ -254,12 +248,12 @@ pub fn parse_rfc3339(text: &str) -> Result<SystemTime, Located<TimestampError>>
 {
     match humantime::parse_rfc3339(text) {
         Ok(time) => Ok(time),
-        Err(error) => Err(error_in(&STRICT, text, error)),
+        Err(error) => Err(locate(text, error, true)),
     }
 }
 
 /// Returns the range of a duration's error.
-#[tactic(auto, using(crate::proofs::Inside::character_inside, crate::proofs::Inside::whole_inside))]
+#[tactic(auto, using(crate::proofs::Inside::ends))]
 fn duration_range(text: &str, error: &DurationError<'_>) -> (usize, usize)
     requires points { PointsInto text.now error.now }
     requires fault { HasFault (chars text.now) (fault_of error.now) }
@@ -276,145 +270,117 @@ fn duration_range(text: &str, error: &DurationError<'_>) -> (usize, usize)
 }
 
 /// Returns the range of the first span up to whose end a text overflows.
+///
+/// It halves the number of spans that fit: each test parses a front of the text, so one for each span would take quadratic time.
 fn overflow_range(text: &str) -> (usize, usize)
     requires { HasFault (chars text.now) NumberOverflow }
     ensures place { OverflowsAt (chars text.now) result.0 result.1 }
     ensures range { IsRangeIn text.now result.0 result.1 }
 {
-    let (count, start) = fitting_front(text);
-    match nth_span(text, count) {
-        Some(span) => (span.start(), span.end()),
-        None => (start, text.len()),
-    }
-}
-
-/// Returns how many spans at the front of a text are within the limits, and the offset of what follows them.
-///
-/// It halves their number: each test parses a front of the text, so one test for each span would take quadratic time.
-fn fitting_front(text: &str) -> (usize, usize)
-    requires { HasFault (chars text.now) NumberOverflow }
-    ensures fit { Fit (chars text.now) result.0 }
-    ensures most { ¬ (Fit (chars text.now) (suc result.0)) }
-    ensures start { result.1 ≡ start_after result.0 (chars text.now) }
-{
     let (mut low, mut high) = (0, text.len());
-    let mut front = text.len() - text.trim_start().len();
+    let mut start = text.len() - text.trim_start().len();
     while low < high {
         let middle = low + (high - low) / 2;
         match fitting_end(text, middle) {
             Some(end) => {
                 low = middle + 1;
-                front = end;
+                start = end;
             }
             None => high = middle,
         }
     }
-    (low, front)
+    match nth_span(text, low) {
+        Some(span) => (span.start(), span.end()),
+        None => (start, text.len()),
+    }
 }
 
 /// Returns the offset after the span at an index and the whitespace behind it, if the spans up to it are within the limits.
 fn fitting_end(text: &str, index: usize) -> Option<usize>
-    ensures fit { IfSome result (λ end. Fit (chars text.now) (suc index)) }
-    ensures end { IfSome result (λ end. end ≡ start_after (suc index) (chars text.now)) }
-    ensures none { IfNone result (¬ (Fit (chars text.now) (suc index))) }
+    ensures fit { IsSome result ↔ Fit (chars text.now) (suc index) }
+    ensures end { IfSome result (λ end. end ≡ start_at (suc index) (chars text.now)) }
 {
-    let span = nth_span(text, index)?;
-    let (_, rest) = text.split_at(span.end());
+    let (_, rest) = text.split_at(nth_span(text, index)?.end());
     let end = text.len() - rest.trim_start().len();
     let (front, _) = text.split_at(end);
-    match humantime::parse_duration(front) {
-        Ok(_) => Some(end),
-        Err(_) => None,
-    }
+    humantime::parse_duration(front).ok()?;
+    Some(end)
 }
 
 /// Returns the span at an index, if there is one.
 fn nth_span(text: &str, index: usize) -> Option<Span<'_>>
-    ensures some { IfSome result (λ s. IsSpanAfter (chars text.now) index (span_view s).start (span_view s).end) }
-    ensures none { IfNone result (¬ (BeginsSpans (suc index) (chars text.now))) }
+    ensures { option_map span_view result ≡ span_at index (chars text.now) }
 {
-    let Some(item) = spans(text).nth(index) else {
-        return None;
-    };
-    match item {
-        Ok(span) => Some(span),
-        Err(_) => None,
-    }
+    spans(text).nth(index)?.ok()
 }
 
 /// Returns an error of a timestamp with its range.
-fn error_in(layout: &Layout, text: &str, error: TimestampError) -> Located<TimestampError>
-    requires numbers { error ≡ OutOfRange → has_digits text.now ≡ true }
-    ensures { result ≡ spec.located layout.now text.now error }
+fn locate(text: &str, error: TimestampError, strict: bool) -> Located<TimestampError>
+    ensures error { result ≡ spec.located strict text.now error }
+    ensures range { IsRangeIn text.now result.start result.end }
 {
-    let fitting = fit_len(layout, text.as_bytes());
-    let (start, end) = if fitting < layout.len() {
-        (fitting, char_end(text, fitting))
-    } else {
-        match error {
-            TimestampError::OutOfRange => wrong_field(text.as_bytes()),
-            _ => (timestamp_len(text.as_bytes()), text.len()),
-        }
-    };
+    let (start, end) = error_range(text, error, strict);
     Located { error, start, end }
 }
 
-/// Returns the offset after the character at an offset, or the end of the text if there is none.
-#[tactic(auto, unfolding(crate::specs::Located::char_end))]
-fn char_end(text: &str, at: usize) -> usize
-    requires { at ≤ length text.now }
-    ensures { result ≡ spec.char_end text.now at }
+/// Returns the range of a timestamp's error.
+#[tactic(auto, using(crate::proofs::Inside::fit_inside))]
+fn error_range(text: &str, error: TimestampError, strict: bool) -> (usize, usize)
+    ensures place { result ≡ spec.error_range strict text.now error }
+    ensures range { IsRangeIn text.now result.0 result.1 }
 {
-    let bytes = text.as_bytes();
-    if at == bytes.len() {
-        return at;
+    let fitting = fit_len(text, strict);
+    if fitting < LAYOUT.len() {
+        return (fitting, char_end(text, fitting));
     }
-    at + 1 + continuation_len(&bytes[at + 1..])
+    match error {
+        TimestampError::OutOfRange => wrong_field(text.as_bytes()),
+        _ => (timestamp_len(text.as_bytes()), text.len()),
+    }
 }
 
-/// Returns the number of bytes at the front that continue a character.
-fn continuation_len(bytes: &[u8]) -> usize
-    ensures len { result ≡ prefix_len is_continuation bytes.now }
-    ensures within { result ≤ length bytes.now }
+/// Returns the offset after the character at an offset, or the end of the text if there is none.
+#[tactic(auto, using(crate::proofs::Inside::char_end_is))]
+fn char_end(text: &str, at: usize) -> usize
+    requires { at ≤ length text.now }
+    ensures end { result ≡ spec.char_end text.now at }
+    ensures order { at ≤ result }
+    ensures boundary { IsCharBoundary text.now result }
 {
-    bytes
+    text.ceil_char_boundary(at + 1)
+}
+
+/// Returns the number of bytes at the front that fit the layout.
+#[tactic(auto, unfolding(crate::specs::Located::fit_len))]
+fn fit_len(text: &str, strict: bool) -> usize
+    ensures { result ≡ spec.fit_len strict text.now }
+{
+    LAYOUT
         .iter()
-        .take_while(|b| **b >= 0x80 && **b <= 0xbf)
+        .zip(text.as_bytes())
+        .take_while(|(place, byte)| fits(strict, **place, **byte))
         .count()
 }
 
-/// Returns the number of bytes at the front that fit a layout.
-#[tactic(auto, using(crate::proofs::Inside::fit_steps), unfolding(crate::specs::Located::fit_len))]
-fn fit_len(layout: &Layout, bytes: &[u8]) -> usize
-    ensures len { result ≡ spec.fit_len layout.now bytes.now }
-    ensures within { result ≤ length bytes.now }
-    ensures few { result ≤ 19 }
-{
-    for (at, place) in layout.iter().enumerate() {
-        if at == bytes.len() || !fits(*place, bytes[at]) {
-            return at;
-        }
-    }
-    layout.len()
-}
-
-/// Returns `true` if a byte can stand at this place of a layout.
-fn fits(place: u8, byte: u8) -> bool
-    ensures { result ≡ spec.fits place byte }
+/// Returns `true` if a byte can stand at this place of the layout.
+fn fits(strict: bool, place: u8, byte: u8) -> bool
+    ensures { result ≡ spec.fits strict place byte }
 {
     match place {
         b'0' => byte.is_ascii_digit(),
-        b' ' => byte == b'T' || byte == b' ',
+        b' ' => byte == b'T' || byte == b' ' && !strict,
         _ => byte == place,
     }
 }
 
-/// Returns the bytes of the first field that is out of range.
+/// Returns the bytes of the first number that is out of its bounds.
 #[tactic(auto, using(crate::proofs::Inside::fields), unfolding(crate::proofs::Inside::fields_open))]
 fn wrong_field(bytes: &[u8]) -> (usize, usize)
     requires long { 19 ≤ length bytes.now }
     requires digits { has_digits bytes.now ≡ true }
-    ensures { result ≡ spec.wrong_field bytes.now }
+    ensures bytes { result ≡ spec.wrong_field bytes.now }
+    ensures order { result.0 ≤ result.1 }
+    ensures within { result.1 ≤ 19 }
 {
     let (century, year) = (pair(bytes, 0), pair(bytes, 2));
     let date = Date {
@@ -422,27 +388,18 @@ fn wrong_field(bytes: &[u8]) -> (usize, usize)
         month: pair(bytes, 5),
         day: pair(bytes, 8),
     };
-    first_outside(date, pair(bytes, 11), pair(bytes, 14), pair(bytes, 17))
-}
-
-/// Returns the bytes of the first field that is out of its bounds.
-fn first_outside(date: Date, hour: u32, minute: u32, second: u32) -> (usize, usize)
-    ensures { result ≡ spec.first_outside (bounds date.year date.month date.day hour minute second) }
-{
     if date.year < 1970 {
         (0, 4)
     } else if date.month < 1 || date.month > 12 {
         (5, 7)
     } else if day_number(date, &mut Turns::new()).is_none() {
         (8, 10)
-    } else if hour > 23 {
+    } else if pair(bytes, 11) > 23 {
         (11, 13)
-    } else if minute > 59 {
+    } else if pair(bytes, 14) > 59 {
         (14, 16)
-    } else if second > 60 {
-        (17, 19)
     } else {
-        (0, 0)
+        (17, 19)
     }
 }
 
@@ -457,13 +414,21 @@ fn pair(bytes: &[u8], at: usize) -> u32
     (bytes[at] - b'0') as u32 * 10 + (bytes[at + 1] - b'0') as u32
 }
 
-/// Returns the length of the longest timestamp at the front, as far as its layout goes.
+/// Returns the length of the longest timestamp at the front of a text whose first 19 bytes fit the layout.
+#[tactic(auto, unfolding(crate::specs::Located::zone_len))]
 fn timestamp_len(bytes: &[u8]) -> usize
     requires { 19 ≤ length bytes.now }
     ensures { result ≡ spec.timestamp_len bytes.now }
 {
     let end = fraction_end(bytes);
-    end + zone_len(&bytes[end..])
+    let zone = &bytes[end..];
+    if zone.starts_with(b"Z") {
+        end + 1
+    } else if zone.starts_with(b"+00:00") {
+        end + 6
+    } else {
+        end
+    }
 }
 
 /// Returns the offset after the seconds and the fraction, if any.
@@ -485,19 +450,4 @@ fn digits_len(bytes: &[u8]) -> usize
     ensures within { result ≤ length bytes.now }
 {
     bytes.iter().take_while(|b| b.is_ascii_digit()).count()
-}
-
-/// Returns the length of the zone at the front, or 0 if there is none.
-#[tactic(auto, unfolding(crate::specs::Located::zone_len))]
-fn zone_len(rest: &[u8]) -> usize
-    ensures len { result ≡ spec.zone_len rest.now }
-    ensures few { result ≤ 6 }
-{
-    if rest.starts_with(b"Z") {
-        1
-    } else if rest.starts_with(b"+00:00") {
-        6
-    } else {
-        0
-    }
 }

@@ -1,23 +1,27 @@
-use Rattle.std.proofs.lemmas.Str.{IsCharBoundary-end}
-use Rattle.humantime_std.proofs.Overflows.{overflows_here, overflows_to_end, rest_boundary, span_inside}
+use Rattle.std.proofs.Common.{◌≡◌, refl, arith}
+use Rattle.humantime_std.proofs.Overflows.{end_inside, none_fits, overflows_here, overflows_to_end, span_ends, start_of_first, too_many, trimmed_at}
 use Rattle.humantime_std.proofs.located.overflow_range.Goals as goal
 
-pub returns-in-Some-clause-place : goal.returns-in-Some-clause-place
-returns-in-Some-clause-place c =
-    let s = c.in-Some.ensures.some in
-    let front = c.fitting_front-count.ensures in
-    rw (c.start.ensures, c.end.ensures, s.at_start, s.at_end) (overflows_here _ _ c.requires front.fit front.most s.begins)
+pub loop-low-init : goal.loop-low-init
+loop-low-init c = record {
+  order = omega arith;
+  fit = none_fits _;
+  beyond = too_many _ c.utf8.text;
+  start = rw (start_of_first _) (trimmed_at _ _ _ _ c.utf8.text c.trim_start.utf8 c.trim_start.ensures.trim refl);
+}
 
-pub returns-in-Some-clause-range : goal.returns-in-Some-clause-range
-returns-in-Some-clause-range c = rw (c.start.ensures, c.end.ensures) (span_inside _ _ _ _ c.utf8.text c.in-Some.ensures.some)
+pub returns-in-Some-nth_span-clause-place : goal.returns-in-Some-nth_span-clause-place
+returns-in-Some-nth_span-clause-place c =
+    let done : c.loop-low.high ≡ c.loop-low.low = omega arith in
+    let beyond = rw done at c.loop-low.invariant.beyond in
+    rw (c.start.ensures, c.end.ensures) (overflows_here _ _ _ _ c.requires c.loop-low.invariant.fit beyond c.nth_span.ensures c.in-Some-nth_span.is)
 
-pub returns-in-None-clause-place : goal.returns-in-None-clause-place
-returns-in-None-clause-place c =
-    let front = c.fitting_front-count.ensures in
-    rw (front.start) (overflows_to_end _ _ c.utf8.text c.requires front.fit c.in-None.ensures.none)
+pub returns-in-Some-nth_span-clause-range : goal.returns-in-Some-nth_span-clause-range
+returns-in-Some-nth_span-clause-range c = rw (c.start.ensures, c.end.ensures) ((span_ends _ _ _ _ c.utf8.text c.nth_span.ensures c.in-Some-nth_span.is).0)
 
-pub returns-in-None-clause-range : goal.returns-in-None-clause-range
-returns-in-None-clause-range c =
-    let front = c.fitting_front-count.ensures in
-    let there = rest_boundary _ _ c.utf8.text front.fit.begins in
-    rw (front.start) (record { order = there.0; at_start = there; at_end = IsCharBoundary-end _ })
+pub returns-in-None-nth_span-clause-place : goal.returns-in-None-nth_span-clause-place
+returns-in-None-nth_span-clause-place c =
+    rw (c.loop-low.invariant.start) (overflows_to_end _ _ _ c.utf8.text c.requires c.loop-low.invariant.fit c.nth_span.ensures c.in-None-nth_span.is)
+
+pub returns-in-None-nth_span-clause-range : goal.returns-in-None-nth_span-clause-range
+returns-in-None-nth_span-clause-range c = rw (c.loop-low.invariant.start) (end_inside _ _ c.utf8.text)
