@@ -18,14 +18,10 @@ use std::{io, thread};
 /// # Examples
 ///
 /// ```
-/// use humantime::{format_rfc3339_millis, parse_rfc3339};
+/// use humantime::parse_rfc3339;
 /// use humantime_std::now;
 ///
-/// let time = now(&rt)?;
-/// assert!(rt; time > parse_rfc3339("2018-02-14T00:28:07Z")?);
-/// let mut buf = [0; 30];
-/// let text = format_rfc3339_millis(time).text(&mut buf).ok_or("after 9999")?;
-/// assert_eq!(rt; text.len(), "2018-02-14T00:28:07.000Z".len());
+/// assert!(rt; now(&rt)? > parse_rfc3339("2018-02-14T00:28:07Z")?);
 /// ```
 pub fn now(clock: &impl Clock) -> io::Result<SystemTime>
     ensures { IfOk result (λ time. pos 0 ≤ℤ time) }
@@ -60,14 +56,12 @@ pub fn sleep(clock: &impl Clock, duration: StdDuration) {
 /// # Examples
 ///
 /// ```
-/// use humantime::{format_duration, parse_duration};
+/// use humantime::parse_duration;
 /// use humantime_std::elapsed;
 /// use std::time::Instant;
 ///
 /// let start = Instant::now(&rt)?;
-/// let duration = elapsed(&rt, start)?;
-/// assert!(rt; duration < parse_duration("1h")?);
-/// assert!(rt; !format_duration(duration).text(&mut [0; 64]).is_empty());
+/// assert!(rt; elapsed(&rt, start)? < parse_duration("1h")?);
 /// ```
 pub fn elapsed(clock: &impl Clock, start: Instant) -> io::Result<StdDuration>
     ensures { IfOk result FitsClock }
