@@ -113,11 +113,3 @@ pub char_end_is : (b : List ℕ) (at end : ℕ) → at ≤ length b → (at + 1 
 unfolding char_end
 char_end_is b at end inside bound boundary nearest beyond =
     grind (arith, (continues b), (length-drop (at + 1) b), (get_or-drop (at + 1) b), (prefix_len_is (is_in_range 128 191) (drop (at + 1) b) (end - (at + 1)) 0))
-
--- ---- Marks
-
-pub boundary_in_rest : (b : List ℕ) (k m : ℕ) → k ≤ m → IsCharBoundary b m → IsCharBoundary (drop k b) (m - k)
-boundary_in_rest b k m order boundary =
-    let size : length (drop k b) ≡ length b - k = length-drop k b in
-    let same : k + (m - k) ≡ m = omega arith in
-    (omega (arith, size, boundary.0), λ some. rw (get_or-drop, same) (boundary.1 (omega (arith, size, some))))

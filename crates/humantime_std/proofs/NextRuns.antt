@@ -40,15 +40,11 @@ run_after_wait last now gap every wait is some short whole =
       first = λ u due. omega (arith, ints, least due.periods (omega (arith, ints)));
     }
 
--- What is not before the end is at the end or later.
-not_before : (t end : ℤ) → ¬ (t <ℤ end) → end ≤ℤ t
-not_before t end given = grind (arith, ints)
-
 -- An answer is the next run if that is in range, and otherwise no run in range is due.
 pub is_answer : (last now t : ℤ) (every : ℕ) (r : Option ℤ) → IsNextRun last every now t → SomeIff r (t <ℤ moment_end) t
     → IfSome r (IsNextRun last every now) × (IsNone r ↔ ((u : ℤ) → IsDue last every now u → moment_end ≤ℤ u))
 is_answer last now t every None is given =
-    (tt, (λ none u due. not_before u moment_end (λ within. given (omega (arith, ints, is.first u due))), λ all. search rules))
+    (tt, (λ none u due. grind (arith, ints, (is.first u due)), λ all. search rules))
 is_answer last now t every (Some x) is given = (
   subst (IsNextRun last every now) (sym given.1) is,
   (λ none. absurd (search rules), λ all. absurd (omega (arith, ints, all t is.due))),

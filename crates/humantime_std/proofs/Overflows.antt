@@ -69,15 +69,13 @@ ok_at [] (Some e) (suc k) = refl
 ok_at (x ∷ xs) stop zero = refl
 ok_at (x ∷ xs) stop (suc k) = ok_at xs stop k
 
-ok_view : (r : Option (Result Span DurationError)) → option_map span_view (option_and_then result_ok r) ≡ option_and_then result_ok (option_map item_of r)
-ok_view r = grind arith
-
 -- What `nth` of the spans returned, if it is no error, is the span at this index.
 pub nth_is : (text : List ℕ) (it u : SpanIter) (r : Option (Result Span DurationError)) (k : ℕ) → AreItems text (items_left it) → SkipsThenYields GivesItem it k r u
     → option_map span_view (option_and_then result_ok r) ≡ span_at k text
 nth_is text it u r k are ran =
     let item = nth_from_yields_List r u k ran (YieldsList-from_shown GivesItem item_of items_left (λ s t g. ap length g.0.0) (λ s x t g. g.0) it) in
-    ok_view r ∙ ap (option_and_then result_ok) (item ∙ ap (λ (l : List (Result SpanView Fault)). slice_get l k) (one_span_view text (items_left it) are)) ∙ ok_at _ _ k
+    let same : option_map span_view (option_and_then result_ok r) ≡ option_and_then result_ok (option_map item_of r) = grind arith in
+    same ∙ ap (option_and_then result_ok) (item ∙ ap (λ (l : List (Result SpanView Fault)). slice_get l k) (one_span_view text (items_left it) are)) ∙ ok_at _ _ k
 
 -- ---- What is read
 

@@ -19,10 +19,6 @@ use Rattle.humantime.specs.Timestamps.{date_time_of}
 use Rattle.humantime.specs.Walks.{walk_of}
 use Rattle.humantime_std.specs.declared.located.Located.{Located}
 
--- A range of bytes: its first offset, and the offset after it.
-abbrev pub Range : Type 0
-Range = ℕ × ℕ
-
 -- Returns the offset after the character that begins at an offset, or the end of the text if none does.
 unfoldable pub char_end : List ℕ → ℕ → ℕ
 char_end text at = min (at + 1 + prefix_len (is_in_range 128 191) (drop (at + 1) text)) (length text)
@@ -45,7 +41,7 @@ unfoldable pub fit_len : Bool → List ℕ → ℕ
 fit_len strict b = prefix_len (λ p. fits strict p.0 p.1) (zip layout b)
 
 -- Returns the bytes of the first number that is out of its bounds.
-unfoldable pub wrong_field : List ℕ → Range
+unfoldable pub wrong_field : List ℕ → ℕ × ℕ
 wrong_field b =
     let x = date_time_of b in
     if not (nat_le 1970 x.date.year) then (0, 4)
@@ -68,12 +64,12 @@ abbrev pub timestamp_len : List ℕ → ℕ
 timestamp_len b = fraction_end b + zone_len (drop (fraction_end b) b)
 
 -- The bytes of an error behind the layout: the first number that is out of its bounds, or what follows the longest timestamp at the front.
-abbrev pub range_behind : List ℕ → TimestampError → Range
+abbrev pub range_behind : List ℕ → TimestampError → ℕ × ℕ
 range_behind b OutOfRange = wrong_field b
 range_behind b _ = (timestamp_len b, length b)
 
 -- The bytes of an error: the first character that does not fit the layout, or the end of the text if it ends there, or those behind it.
-abbrev pub error_range : Bool → List ℕ → TimestampError → Range
+abbrev pub error_range : Bool → List ℕ → TimestampError → ℕ × ℕ
 error_range strict b e =
     let n = fit_len strict b in
     if n == 19 then range_behind b e else (n, char_end b n)

@@ -215,8 +215,7 @@ impl StdDurationExt for StdDuration {
     fn checked_sub(self, other: StdDuration) -> Option<StdDuration>
         ensures { SomeIff result (other ≤ self) (self - other) }
     {
-        let difference = self.to_std().checked_sub(other.to_std())?;
-        Some(StdDuration::from_std(difference))
+        Some(StdDuration::from_std(self.to_std().checked_sub(other.to_std())?))
     }
 
     fn saturating_sub(self, other: StdDuration) -> StdDuration
