@@ -42,7 +42,8 @@ pub enum SettingsError {
     OutOfMemory,
     /// An error at a known position.
     At(Marked),
-    /// The message of an error whose position is not known, such as one below long keys in TOML, or of a value that cannot be written.
+    /// The message of an error whose position is not known, such as that of an item in TOML that is no variant of an untagged enum, or of a
+    /// value that cannot be written.
     Whole(String),
 }
 

@@ -13,11 +13,6 @@ pub(crate) const WANTS_DURATION: &str = "expected a duration in quotes";
 /// The error of a value that is no text, where a timestamp is wanted.
 pub(crate) const WANTS_TIMESTAMP: &str = "expected a timestamp in quotes";
 
-/// Returns `true` if this is the error of a value that is no text.
-pub(crate) fn wants_text(said: &str) -> bool {
-    said == WANTS_DURATION || said == WANTS_TIMESTAMP
-}
-
 /// Returns the message of an error.
 pub(crate) fn message_of<E: Display + Drop>(error: E) -> Message {
     Message::of(error)
@@ -54,48 +49,40 @@ impl Fault {
     }
 }
 
-/// Returns the fault of a value in `string`, which is the value as the document has it, with its quotes.
-///
-/// `said` is the message of the format. If it is not that of an error of this value, returns `None`.
+/// Returns the fault of the text of the string at the front of a document, if `said`, which the format may have cut, is its message.
 pub(crate) fn fault_in(
     alloc: Global,
     said: &str,
-    string: &str,
-    value: &str,
+    document: &str,
+    text: &str,
 ) -> Result<Option<Fault>, AllocError> {
-    let fault = said_fault(alloc, said, string, parse_duration(value).err())?;
+    let fault = said_fault(alloc, said, document, text, parse_duration(text).err())?;
     if fault.is_some() {
         return Ok(fault);
     }
-    said_fault(alloc, said, string, parse_rfc3339_weak(value).err())
+    said_fault(alloc, said, document, text, parse_rfc3339_weak(text).err())
 }
 
-/// Returns the fault of a string whose text has this error, if a format says its message.
+/// Returns the fault of a text with this error, if `said` is its message.
 fn said_fault<E: Display + Drop>(
     alloc: Global,
     said: &str,
-    string: &str,
+    document: &str,
+    text: &str,
     error: Option<Located<E>>,
 ) -> Result<Option<Fault>, AllocError> {
     let Some(error) = error else {
         return Ok(None);
     };
     let message = error.to_string(alloc)?;
-    if !is_cut_from(said, &message) {
-        return Ok(None);
-    }
-    let (start, end) = raw_range(string, error.start, error.end);
-    Ok(Some(Fault {
+    let is_said = match said.strip_suffix("...") {
+        Some(front) => message.starts_with(front),
+        None => said == message.as_str(),
+    };
+    let (start, end) = raw_range(document, text, error.start, error.end);
+    Ok(is_said.then_some(Fault {
         message,
         start,
         end,
     }))
-}
-
-/// Returns `true` if a format says this message, which it may have cut.
-fn is_cut_from(said: &str, message: &str) -> bool {
-    match said.strip_suffix("...") {
-        Some(front) => message.starts_with(front),
-        None => said == message,
-    }
 }

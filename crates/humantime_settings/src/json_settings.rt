@@ -9,6 +9,8 @@ ghost use Rattle.humantime_settings.specs.Marks.{IsErrorIn};
 
 use crate::error::{SettingsError, marked_at};
 use crate::faults::{Fault, fault_in};
+use crate::path::{Step, path_to};
+use json::{Reader, Scratch, Token};
 use serde::{Deserialize, Serialize};
 use std::alloc::{AllocError, Global};
 
@@ -83,82 +85,61 @@ fn located(alloc: Global, text: &str, error: &serde_json::Error) -> Result<Fault
     message.truncate(message.rfind(" at line ").unwrap_or(message.len()));
     let at = offset_of(text, error);
     if message.starts_with("duplicate field") {
-        return Ok(Fault::at(key_before(text, at), message));
+        return Ok(Fault::at(key_of(alloc, text, at)?, message));
     }
     let front = text.get(at..).unwrap_or("");
-    // The message leaves out which type, number, field or variant.
-    if message.as_str() == "invalid type" {
-        let message = format!(in alloc; "invalid type: {}", type_of(front))?;
-        return Ok(Fault::at(at, message));
+    let mut scratch = Scratch::new(alloc);
+    let token = first_token(front, &mut scratch)?;
+    if let Token::String(text) | Token::Key(text) = token {
+        if let Some(fault) = fault_in(alloc, &message, front, text)? {
+            return Ok(fault.after(at));
+        }
     }
-    if message.as_str() == "invalid value" && type_of(front) == "number" {
-        let message = format!(in alloc; "invalid value: number `{}`", front_word(front))?;
-        return Ok(Fault::at(at, message));
-    }
-    let string = front_text(front);
-    let value = match serde_json::from_str::<String>(alloc, string) {
-        Ok(value) => value,
-        Err(error) if error.is_memory() => return Err(AllocError),
-        Err(_) => return Ok(Fault::at(at, message)),
-    };
-    if matches!(message.as_str(), "unknown field" | "unknown variant") {
-        let message = format!(in alloc; "{message} `{value}`")?;
-        return Ok(Fault::at(at, message));
-    }
-    Ok(match fault_in(alloc, &message, string, &value)? {
-        Some(fault) => fault.after(at),
-        None => Fault::at(at, message),
+    Ok(Fault::at(at, with_token(alloc, message, token)?))
+}
+
+/// Returns the offset of the key of the token at an offset, or this offset if it has none.
+fn key_of(alloc: Global, text: &str, at: usize) -> Result<usize, AllocError> {
+    let mut scratch = Scratch::new(alloc);
+    let (path, _) = path_to(alloc, text, at, &mut scratch)?;
+    Ok(match path.last() {
+        Some(Step::Key(_, key)) => *key,
+        _ => at,
     })
 }
 
-/// Returns what the error of `serde` calls the type of the value at the front.
-fn type_of(document: &str) -> &'static str {
-    match document.as_bytes().first() {
-        Some(b'"') => "string",
-        Some(b'[') => "sequence",
-        Some(b'{') => "map",
-        Some(b't' | b'f') => "boolean",
-        Some(b'n') => "null",
+/// Returns the token at the front of a document.
+fn first_token<'a>(document: &'a str, scratch: &'a mut Scratch) -> Result<Token<'a>, AllocError> {
+    let mut reader = Reader::new(document, scratch)?;
+    Ok(reader.next().unwrap_or(Token::Bad))
+}
+
+/// Returns a message with the type, the number or the name that `serde_json` leaves out.
+fn with_token(alloc: Global, message: String, token: Token<'_>) -> Result<String, AllocError> {
+    match (message.as_str(), token) {
+        ("invalid type", _) => format!(in alloc; "{message}: {}", type_of(token)),
+        ("invalid value", Token::Number(n)) => format!(in alloc; "{message}: number `{n}`"),
+        ("unknown field" | "unknown variant", Token::String(name) | Token::Key(name)) => {
+            format!(in alloc; "{message} `{name}`")
+        }
+        _ => Ok(message),
+    }
+}
+
+/// Returns what the error of `serde` calls the type of the value that begins with a token.
+fn type_of(token: Token<'_>) -> &'static str {
+    match token {
+        Token::String(_) | Token::Key(_) => "string",
+        Token::BeginArray => "sequence",
+        Token::BeginObject => "map",
+        Token::Bool(_) => "boolean",
+        Token::Null => "null",
         _ => "number",
     }
 }
 
-/// Returns the document up to what can stand behind a number.
-fn front_word(document: &str) -> &str {
-    let end = document.find([',', ']', '}', ' ', '\t', '\r', '\n']);
-    document.get(..end.unwrap_or(document.len())).unwrap_or("")
-}
-
-/// Returns the document up to its second quote that no backslash escapes: the whole string, if it begins with one.
-fn front_text(document: &str) -> &str {
-    for (at, _) in document.match_indices('"').skip(1) {
-        if !ends_in_escape(document.get(..at).unwrap_or("")) {
-            return document.get(..=at).unwrap_or("");
-        }
-    }
-    ""
-}
-
-/// Returns the offset of the key of the value at an offset, or this offset if no key is before it.
-fn key_before(document: &str, at: usize) -> usize {
-    let before = document.get(..at).unwrap_or("");
-    let key = before.trim_end_matches([':', ' ', '\t', '\r', '\n']);
-    for (quote, _) in key.rmatch_indices('"').skip(1) {
-        if !ends_in_escape(key.get(..quote).unwrap_or("")) {
-            return quote;
-        }
-    }
-    at
-}
-
-/// Returns `true` if a backslash at the end of a text escapes what follows.
-fn ends_in_escape(text: &str) -> bool {
-    let before = text.trim_end_matches('\\');
-    text.len().saturating_sub(before.len()) % 2 == 1
-}
-
 /// Returns the offset of an error in the document. The error has a line, from 1, and a column, in bytes from 1.
-fn offset_of(document: &str, error: &serde_json::Error) -> usize {
+pub(crate) fn offset_of(document: &str, error: &serde_json::Error) -> usize {
     let mut offset = error.column().saturating_sub(1);
     for line in document
         .split_inclusive('\n')

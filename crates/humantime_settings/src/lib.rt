@@ -64,9 +64,9 @@ mod error;
 mod faults;
 mod fields;
 mod json_settings;
+mod path;
 mod raw_strings;
 mod toml_places;
-mod toml_search;
 mod toml_settings;
 
 pub use error::{Marked, SettingsError};

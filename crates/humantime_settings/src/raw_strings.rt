@@ -1,91 +1,73 @@
 //! Where a part of a text stands in the string of a document: in JSON, or of each of the four kinds in TOML.
 
-/// A character or an escape in a string, and how much of the text it stands for, in bytes.
-#[derive(Clone, Copy)]
-struct Piece {
-    raw: usize,
-    /// It is 0 for a backslash at the end of a line and the white space behind it.
-    text: usize,
-}
+/// The white space that a backslash at the end of a line leaves out.
+const BLANK: [char; 4] = [' ', '\t', '\r', '\n'];
 
-/// Returns the range of a string with its quotes that stands for a range of its text.
-pub(crate) fn raw_range(string: &str, start: usize, end: usize) -> (usize, usize) {
-    let (first, _) = piece_at(string, start);
+/// Returns the range that stands for a range of the text of the string at the front of a document.
+pub(crate) fn raw_range(document: &str, text: &str, start: usize, end: usize) -> (usize, usize) {
+    let (first, _) = piece_at(document, text, start);
     if start < end {
-        (first, piece_at(string, end - 1).1)
+        (first, piece_at(document, text, end - 1).1)
     } else {
         (first, first)
     }
 }
 
-/// Returns where the piece that stands for a byte of the text begins and ends in a string, or twice where its closing quotes begin if the
-/// text has no such byte.
-fn piece_at(string: &str, byte: usize) -> (usize, usize) {
-    let (start, content) = content_of(string);
-    let is_literal = string.starts_with('\'');
-    // Where the next piece begins in the content, and in the text.
-    let (mut next, mut text): (usize, usize) = (0, 0);
-    for (at, c) in content.char_indices() {
-        if at < next {
-            continue;
-        }
-        let piece = if c == '\\' && !is_literal {
-            escape(content.get(at + 1..).unwrap_or(""))
+/// Returns where the character or the escape begins and ends that stands for a byte of the text, or twice where the closing quotes begin if
+/// the text has no such byte.
+fn piece_at(document: &str, text: &str, byte: usize) -> (usize, usize) {
+    let is_literal = document.starts_with('\'');
+    let mut next = content_start(document);
+    for (at, c) in text.char_indices() {
+        let start = after_blank(document, next, is_literal);
+        let len = if is_literal {
+            c.len_utf8()
         } else {
-            let len = c.len_utf8();
-            Piece {
-                raw: len,
-                text: len,
-            }
+            raw_len(document.get(start..).unwrap_or(""), c)
         };
-        next = at.saturating_add(piece.raw);
-        text = text.saturating_add(piece.text);
-        if byte < text {
-            return (start.saturating_add(at), start.saturating_add(next));
+        next = start.saturating_add(len);
+        if byte < at.saturating_add(c.len_utf8()) {
+            return (start, next);
         }
     }
-    let end = start.saturating_add(content.len());
+    let end = after_blank(document, next, is_literal);
     (end, end)
 }
 
-/// Returns what is between the quotes of a string, if it has any, and its offset. A line feed at its start, which only three quotes have,
-/// is left out.
-fn content_of(string: &str) -> (usize, &str) {
-    let is_long = string.starts_with("\"\"\"") || string.starts_with("'''");
-    let has_quotes = string.starts_with('"') || string.starts_with('\'');
-    let quotes = if is_long { 3 } else { has_quotes as usize };
-    let end = string.len().saturating_sub(quotes);
-    let content = string.get(quotes..end).unwrap_or("");
-    let content = content
-        .strip_prefix("\r\n")
-        .or(content.strip_prefix('\n'))
-        .unwrap_or(content);
-    (end.saturating_sub(content.len()), content)
+/// Returns the offset of what is between the quotes, if the document begins with any. A line feed at the start of three quotes is left out.
+fn content_start(document: &str) -> usize {
+    for quotes in ["\"\"\"", "'''"] {
+        if let Some(content) = document.strip_prefix(quotes) {
+            let feed = content.strip_prefix("\r\n").or(content.strip_prefix('\n'));
+            return document.len().saturating_sub(feed.unwrap_or(content).len());
+        }
+    }
+    document.starts_with(['"', '\'']) as usize
 }
 
-/// Returns the piece of a backslash and what follows it.
-fn escape(escaped: &str) -> Piece {
-    let digits = match escaped.as_bytes().first() {
-        Some(b'x') => 2,
-        Some(b'u') => 4,
-        Some(b'U') => 8,
-        Some(b' ' | b'\t' | b'\r' | b'\n') => {
-            let after = escaped.trim_start_matches([' ', '\t', '\r', '\n']);
-            let blank = escaped.len().saturating_sub(after.len());
-            return Piece {
-                raw: blank.saturating_add(1),
-                text: 0,
-            };
+/// Returns the offset after each backslash at the end of a line, with the white space behind it.
+fn after_blank(document: &str, at: usize, is_literal: bool) -> usize {
+    let mut rest = document.get(at..).unwrap_or("");
+    for _ in 0..rest.len() {
+        match rest.strip_prefix('\\') {
+            Some(blank) if !is_literal && blank.starts_with(BLANK) => {
+                rest = blank.trim_start_matches(BLANK);
+            }
+            _ => break,
         }
-        _ => return Piece { raw: 2, text: 1 },
-    };
-    let code = u32::from_str_radix(escaped.get(1..digits + 1).unwrap_or(""), 16).unwrap_or(0);
-    match char::from_u32(code) {
-        Some(c) => Piece {
-            raw: digits + 2,
-            text: c.len_utf8(),
-        },
+    }
+    document.len().saturating_sub(rest.len())
+}
+
+/// Returns the length of what stands for a character at the front of the content.
+fn raw_len(content: &str, c: char) -> usize {
+    match content.as_bytes() {
+        [b'\\', b'x', ..] => 4,
         // In JSON, a pair of them stands for a character of four bytes.
-        None => Piece { raw: 12, text: 4 },
+        [b'\\', b'u', ..] if c.len_utf8() == 4 => 12,
+        [b'\\', b'u', ..] => 6,
+        [b'\\', b'U', ..] => 10,
+        [b'\\', ..] => 2,
+        _ => c.len_utf8(),
     }
 }

@@ -1,234 +1,199 @@
-//! The places in a TOML document to which some keys lead.
+//! The place in a TOML document to which a path leads.
 
-use std::alloc::{AllocError, Global};
+use crate::path::Step;
+use std::alloc::Global;
 use toml_parser::text::{first, skip_blank, skip_ws};
 use toml_parser::{ParseError, quoted, starts_string};
 
-/// A part of a key, with what it leads to, or an item of an array.
+/// A key with its value, or an item of an array.
 #[derive(Clone, Copy)]
 pub(crate) struct Place<'a> {
-    /// The document from there on: from the bracket of a header on at the last part of its key.
-    pub start: &'a str,
-    /// The document from the part on. An item has none.
-    pub key: Option<&'a str>,
-    /// The document from the value on. A part that is not the last has none, and neither has a header.
-    pub value: Option<&'a str>,
-    /// What is left of the keys that are looked for, or `None` if its own differ.
-    pub left: Option<&'a str>,
-    /// How many tables and arrays are open there.
-    pub depth: usize,
+    /// The document from the last part of the key on. An item has none, but its value.
+    pub key: &'a str,
+    /// The document from the value on. That of a header is the header, and that of a part which other parts follow is the part.
+    pub value: &'a str,
 }
 
-impl Place<'_> {
-    /// Returns `true` for a part of a key that other parts follow.
-    pub(crate) fn is_front(&self) -> bool {
-        self.value.is_none() && first(self.start) != b'['
-    }
-}
+/// The steps of a path that are left in a table or behind a key, or `None` if the path does not lead there.
+type Left<'a> = Option<&'a [Step<'a>]>;
 
-/// A walk over the keys and values of a document that `toml` has read.
+/// A walk through a document that `toml` has read, along a path.
 #[derive(Drop)]
-pub(crate) struct Places<'a> {
+struct Walk<'a> {
+    alloc: Global,
+    path: &'a [Step<'a>],
     rest: &'a str,
-    /// The keys of the values that are looked for, with dots between them. Items of an array have the keys of the array.
-    keys: &'a str,
-    /// Whether `keys` are only the front of these.
-    is_cut: bool,
-    /// The table of the last header, and then the arrays and inline tables that are open.
-    open: Vec<Open<'a>>,
-    /// The key of which a part is next.
-    parts: Option<Parts<'a>>,
+    /// What is left of the path in the table that is open.
+    left: Left<'a>,
+    /// How many items have begun with a header in two brackets, by the number of steps that are left.
+    begun: Vec<usize>,
+    /// The first part of a longer header that makes the table where the path ends.
+    made: Option<Place<'a>>,
 }
 
-/// A table or an array that is not at its end.
-#[derive(Clone, Copy)]
-struct Open<'a> {
-    /// What is left of the keys that are looked for after its own, or `None` if these differ.
-    left: Option<&'a str>,
-    is_array: bool,
+/// Returns the place to which a path leads. A table that has no header or brace begins with the first key that makes it.
+pub(crate) fn place_of<'a>(
+    alloc: Global,
+    document: &'a str,
+    path: &'a [Step<'a>],
+) -> Result<Option<Place<'a>>, ParseError> {
+    let top = Place {
+        key: document,
+        value: document,
+    };
+    let mut walk = Walk {
+        alloc,
+        path,
+        // `toml` accepts a byte order mark, too.
+        rest: document.strip_prefix('\u{feff}').unwrap_or(document),
+        left: Some(path),
+        begun: vec![in alloc; 0; path.len() + 1]?,
+        made: path.is_empty().then_some(top),
+    };
+    // Each step passes at least one character.
+    for _ in 0..document.len() {
+        let found = walk.step()?;
+        if found.is_some() {
+            return Ok(found);
+        }
+    }
+    Ok(walk.made)
 }
 
-/// A key that is not at its end.
-#[derive(Clone, Copy)]
-struct Parts<'a> {
-    /// The document from the header on, if the key is that of one.
-    header: Option<&'a str>,
-    /// What is left of the keys that are looked for after the parts so far, or `None` if these differ.
-    left: Option<&'a str>,
-}
-
-impl<'a> Places<'a> {
-    /// Creates a walk from the start of a document. If the keys are cut, nothing is left of them wherever they are the front of a place's
-    /// own.
-    pub(crate) fn new(
-        alloc: Global,
-        document: &'a str,
-        keys: &'a str,
-        is_cut: bool,
-    ) -> Result<Places<'a>, AllocError> {
-        let mut open = Vec::new(alloc);
-        open.push(Open {
-            left: Some(keys),
-            is_array: false,
-        })?;
-        Ok(Places {
-            // `toml` accepts a byte order mark, too.
-            rest: document.strip_prefix('\u{feff}').unwrap_or(document),
-            keys,
-            is_cut,
-            open,
-            parts: None,
-        })
-    }
-
-    /// Returns the places from here on that have the keys that are looked for.
-    pub(crate) fn all(mut self, alloc: Global) -> Result<Vec<Place<'a>>, ParseError> {
-        let mut found = Vec::new(alloc);
-        // Each step passes at least one character.
-        for _ in 0..self.rest.len() {
-            let Some(place) = self.step(alloc)? else {
-                continue;
-            };
-            if place.left == Some("") {
-                found.push(place)?;
-            }
-        }
-        Ok(found)
-    }
-
-    /// Passes a part of a key, with the line of its header or its value behind the last one; an item; or a mark between these, no place.
-    pub(crate) fn step(&mut self, alloc: Global) -> Result<Option<Place<'a>>, ParseError> {
-        let rest = self.rest;
-        if let Some(parts) = self.parts.take() {
-            return Ok(Some(self.part(alloc, rest, parts)?));
-        }
-        let rest = skip_blank(rest, true);
-        self.rest = tail(rest, 1);
-        let depth = self.open.len();
-        match (first(rest), self.open.last().copied()) {
-            (b'[', _) if depth <= 1 => Ok(Some(self.header(alloc, rest)?)),
-            (b']' | b'}', _) => {
-                self.open.pop();
-                Ok(None)
-            }
-            (b',' | 0, _) | (_, None) => Ok(None),
-            (_, Some(Open { left, is_array })) if is_array => {
-                self.pass_value(alloc, rest, left)?;
-                Ok(Some(Place {
-                    start: rest,
-                    key: None,
-                    value: Some(rest),
-                    left,
-                    depth,
-                }))
-            }
-            (_, Some(Open { left, .. })) => {
-                Ok(Some(self.part(alloc, rest, Parts { header: None, left })?))
-            }
+impl<'a> Walk<'a> {
+    /// Passes a header or an entry of a table. Returns the place where the path ends if it is found.
+    fn step(&mut self) -> Result<Option<Place<'a>>, ParseError> {
+        let rest = skip_blank(self.rest, true);
+        // A comma ends an entry of an inline table.
+        let rest = skip_blank(rest.strip_prefix(',').unwrap_or(rest), true);
+        match first(rest) {
+            0 => Ok(self.made),
+            b'[' => self.header(rest),
+            _ => self.entry(rest),
         }
     }
 
-    /// Passes the first part of the key of a header, which ends the table before.
-    fn header(&mut self, alloc: Global, header: &'a str) -> Result<Place<'a>, ParseError> {
-        self.open.clear();
-        let key = header.trim_start_matches(['[', ' ', '\t']);
-        let parts = Parts {
-            header: Some(header),
-            left: Some(self.keys),
-        };
-        self.part(alloc, key, parts)
-    }
-
-    /// Passes a part of a key, and what the key leads to if the part is the last.
-    fn part(
-        &mut self,
-        alloc: Global,
-        part: &'a str,
-        parts: Parts<'a>,
-    ) -> Result<Place<'a>, ParseError> {
-        let (left, after) = self.left_after(alloc, part, parts.left)?;
-        let after = skip_ws(after);
-        let mut place = Place {
-            start: part,
-            key: Some(part),
-            value: None,
-            left,
-            depth: self.open.len(),
-        };
-        if first(after) == b'.' {
-            self.rest = skip_ws(tail(after, 1));
-            self.parts = Some(Parts { left, ..parts });
-        } else if let Some(header) = parts.header {
-            self.open.push(Open {
-                left,
-                is_array: false,
-            })?;
-            self.rest = tail(after, after.find('\n').unwrap_or(after.len()));
-            place.start = header;
-        } else {
-            let value = skip_ws(tail(after, 1));
-            self.pass_value(alloc, value, left)?;
-            place.value = Some(value);
+    /// Passes a header.
+    fn header(&mut self, header: &'a str) -> Result<Option<Place<'a>>, ParseError> {
+        let name = header.trim_start_matches(['[', ' ', '\t']);
+        let (left, key, rest) = self.key(name, Some(self.path))?;
+        self.rest = tail(rest, rest.find('\n').unwrap_or(rest.len()));
+        if first(rest) == b'.' {
+            self.made = self.made.or(Some(Place { key, value: key }));
+            self.left = None;
+            return Ok(None);
         }
-        Ok(place)
-    }
-
-    /// Passes a value, or the beginning of an array or an inline table.
-    fn pass_value(
-        &mut self,
-        alloc: Global,
-        value: &'a str,
-        left: Option<&'a str>,
-    ) -> Result<(), ParseError> {
-        self.rest = if starts_string(value) {
-            quoted(alloc, value)?.1
-        } else if matches!(first(value), b'[' | b'{') {
-            self.open.push(Open {
-                left,
-                is_array: first(value) == b'[',
-            })?;
-            tail(value, 1)
-        } else {
-            tail(
-                value,
-                value
-                    .find([',', ']', '}', '#', '\n'])
-                    .unwrap_or(value.len()),
-            )
-        };
-        Ok(())
-    }
-
-    /// Returns what is left of the keys after the part of a key at the front, and the document after that part.
-    fn left_after(
-        &self,
-        alloc: Global,
-        part: &'a str,
-        left: Option<&'a str>,
-    ) -> Result<(Option<&'a str>, &'a str), ParseError> {
-        if starts_string(part) {
-            let (name, after) = quoted(alloc, part)?;
-            return Ok((self.left_after_name(left, &name), after));
-        }
-        let name = bare_name(part);
-        Ok((self.left_after_name(left, name), tail(part, name.len())))
-    }
-
-    /// Returns what is left of the keys after a name.
-    fn left_after_name(&self, left: Option<&'a str>, name: &str) -> Option<&'a str> {
-        let left = left?;
-        if self.is_cut && left.is_empty() {
-            return Some(left);
-        }
-        let left = if left.len() < self.keys.len() {
-            left.strip_prefix('.')?
+        self.left = if header.starts_with("[[") {
+            self.next_item(left)
         } else {
             left
         };
-        match left.strip_prefix(name) {
-            Some(left) => Some(left),
-            None => (self.is_cut && name.starts_with(left)).then_some(""),
+        Ok(is_end(self.left).then_some(Place { key, value: header }))
+    }
+
+    /// Passes an entry of the table that is open, or goes into its value if the path leads there.
+    fn entry(&mut self, entry: &'a str) -> Result<Option<Place<'a>>, ParseError> {
+        let (left, key, rest) = self.key(entry, self.left)?;
+        if first(rest) == b'.' {
+            return Ok(self.made.or(Some(Place { key, value: key })));
         }
+        let value = skip_ws(tail(rest, 1));
+        match left {
+            Some(left) => self.value(Place { key, value }, left),
+            None => {
+                self.rest = after_value(self.alloc, value)?;
+                Ok(None)
+            }
+        }
+    }
+
+    /// Goes into the value at a place.
+    fn value(
+        &mut self,
+        mut place: Place<'a>,
+        mut left: &'a [Step<'a>],
+    ) -> Result<Option<Place<'a>>, ParseError> {
+        for _ in 0..self.path.len() {
+            let ([Step::Item(number), behind @ ..], b'[') = (left, first(place.value)) else {
+                break;
+            };
+            let item = item_of(self.alloc, place.value, *number)?;
+            place = Place {
+                key: item,
+                value: item,
+            };
+            left = behind;
+        }
+        // A path leads into a date-time, too, which is an object in JSON.
+        if left.is_empty() || first(place.value) != b'{' {
+            return Ok(Some(place));
+        }
+        (self.left, self.rest) = (Some(left), tail(place.value, 1));
+        Ok(None)
+    }
+
+    /// Passes the parts of a key, up to the last one or to where the path ends. Returns what is left of the path behind this part, the
+    /// document from it on, and the document behind it, which begins with a dot if other parts follow.
+    fn key(
+        &self,
+        key: &'a str,
+        left: Left<'a>,
+    ) -> Result<(Left<'a>, &'a str, &'a str), ParseError> {
+        let (mut left, mut part, mut rest) = (left, key, key);
+        for _ in 0..key.len() {
+            let (behind, after) = part_of(self.alloc, part, left)?;
+            (left, rest) = (behind, skip_ws(after));
+            if first(rest) != b'.' || is_end(left) {
+                break;
+            }
+            (left, part) = (self.last_item(left), skip_ws(tail(rest, 1)));
+        }
+        Ok((left, part, rest))
+    }
+
+    /// Begins an item of an array with a header.
+    fn next_item(&mut self, left: Left<'a>) -> Left<'a> {
+        let begun = self.begun.get_mut(left?.len())?;
+        *begun = begun.saturating_add(1);
+        self.last_item(left)
+    }
+
+    /// Goes into the last item that has begun, if the path leads into an array of tables.
+    fn last_item(&self, left: Left<'a>) -> Left<'a> {
+        let steps = left?;
+        match steps {
+            [Step::Item(number), behind @ ..] => {
+                (self.begun.get(steps.len()) == Some(number)).then_some(behind)
+            }
+            _ => left,
+        }
+    }
+}
+
+/// Returns `true` if a path ends there.
+fn is_end(left: Left<'_>) -> bool {
+    left.is_some_and(|left| left.is_empty())
+}
+
+/// Passes a part of a key. Returns what is left of the path and the document behind it.
+fn part_of<'a>(
+    alloc: Global,
+    part: &'a str,
+    left: Left<'a>,
+) -> Result<(Left<'a>, &'a str), ParseError> {
+    if starts_string(part) {
+        let (name, after) = quoted(alloc, part)?;
+        return Ok((behind(left, &name), after));
+    }
+    let name = bare_name(part);
+    Ok((behind(left, name), tail(part, name.len())))
+}
+
+/// Returns what is left of a path behind a key.
+fn behind<'a>(left: Left<'a>, name: &str) -> Left<'a> {
+    match left? {
+        [Step::Key(key, _), behind @ ..] if *key == name => Some(behind),
+        _ => None,
     }
 }
 
@@ -238,22 +203,36 @@ pub(crate) fn bare_name(part: &str) -> &str {
     part.get(..end.unwrap_or(part.len())).unwrap_or("")
 }
 
-/// Returns the document after the value at the front.
-pub(crate) fn after_value(alloc: Global, value: &str) -> Result<&str, ParseError> {
-    let mut places = Places::new(alloc, value, "", false)?;
-    // The value is passed as an item of an array.
-    places.open.push(Open {
-        left: None,
-        is_array: true,
-    })?;
-    let depth = places.open.len();
+/// Returns the document from an item of the array at the front on.
+fn item_of(alloc: Global, array: &str, number: usize) -> Result<&str, ParseError> {
+    let mut item = skip_blank(tail(array, 1), true);
+    for _ in 1..number {
+        let comma = skip_blank(after_value(alloc, item)?, true);
+        item = skip_blank(tail(comma, 1), true);
+    }
+    Ok(item)
+}
+
+/// Returns the document behind the value at the front.
+fn after_value(alloc: Global, value: &str) -> Result<&str, ParseError> {
+    let (mut rest, mut open) = (value, 0_usize);
     for _ in 0..value.len() {
-        places.step(alloc)?;
-        if places.open.len() <= depth {
+        (rest, open) = match first(rest) {
+            b'"' | b'\'' => (quoted(alloc, rest)?.1, open),
+            b'[' | b'{' => (tail(rest, 1), open.saturating_add(1)),
+            b']' | b'}' => (tail(rest, 1), open.saturating_sub(1)),
+            b',' => (tail(rest, 1), open),
+            _ => {
+                let end = rest.find([',', '"', '\'', '[', ']', '{', '}', '#', '\n']);
+                (tail(rest, end.unwrap_or(rest.len())), open)
+            }
+        };
+        if open == 0 {
             break;
         }
+        rest = skip_blank(rest, true);
     }
-    Ok(places.rest)
+    Ok(rest)
 }
 
 /// Returns the text after an offset.

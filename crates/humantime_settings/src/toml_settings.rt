@@ -5,11 +5,14 @@ ghost use Rattle.toml.specs.Parse.{parse_document};
 ghost use Rattle.humantime_settings.specs.Marks.{IsErrorIn};
 
 use crate::error::{SettingsError, marked_at};
-use crate::faults::Fault;
-use crate::toml_search::Search;
-use serde::{DeserializeOwned, Serialize};
+use crate::faults::{Fault, Message, fault_in};
+use crate::json_settings::offset_of;
+use crate::path::{Step, path_to};
+use crate::toml_places::{Place, bare_name, place_of};
+use json::{Reader, Scratch, Token};
+use serde::{Deserialize, DeserializeOwned, Deserializer, Format, Serialize};
 use std::alloc::{AllocError, Global};
-use toml_parser::ParseError;
+use toml_parser::{ParseError, quoted, starts_string};
 
 /// Reads settings in TOML.
 ///
@@ -23,8 +26,9 @@ use toml_parser::ParseError;
 /// - of a missing key: the start of its table. This is its header or its brace, or the first key that makes it, and of the table at the top
 ///   the start of the document.
 ///
-/// Returns [`SettingsError::Whole`], with the keys in the message, if several values with these keys could be meant, and for any other
-/// error than that of a duration or timestamp below keys that have over 80 bytes together.
+/// Returns [`SettingsError::Whole`], with the keys in the message, if the position is not known: of an item of an array that is no variant
+/// of an untagged enum, and where the same values are no such settings in JSON, which has no empty table for a variant without data, no
+/// number above the greatest `f32`, and at most 127 objects and arrays in one another.
 ///
 /// Returns [`SettingsError::OutOfMemory`] if an allocation fails.
 ///
@@ -80,6 +84,22 @@ pub fn to_toml<T: Serialize>(alloc: Global, value: &T) -> Result<String, Setting
     }
 }
 
+/// The message of a value that is no variant of an untagged enum begins so.
+const NO_VARIANT: &str = "data did not match any variant";
+
+/// A value that is read from JSON and borrows nothing from it.
+#[derive(Drop)]
+struct Owned<T>(T);
+
+impl<'de, T: DeserializeOwned> Deserialize<'de> for Owned<T> {
+    fn deserialize<F: Format>(
+        alloc: Global,
+        from: &mut Deserializer<'de, '_, F>,
+    ) -> Result<Owned<T>, F::Error> {
+        Ok(Owned(T::deserialize_owned(alloc, from)?))
+    }
+}
+
 /// Returns the error of a document, with the place of its fault if that is found.
 fn located<T: DeserializeOwned>(
     alloc: Global,
@@ -92,7 +112,7 @@ fn located<T: DeserializeOwned>(
         return Ok(SettingsError::OutOfMemory);
     };
     let (whole, said) = (error.to_string(alloc)?, error.message());
-    // The fault of a value has no span: `whole` ends with a line "in `KEY.KEY`", which `toml` cuts at 80 bytes, unless there are no keys.
+    // The fault of a value has no span: `whole` ends with a line "in `KEY.KEY`", unless there are no keys.
     let keys = whole.rsplit_once("\nin `").map(|(_, keys)| keys);
     if keys.is_none() && whole.starts_with("TOML parse error") {
         let fault = Fault::at(span.start, String::from_str(alloc, said)?);
@@ -100,13 +120,7 @@ fn located<T: DeserializeOwned>(
     }
     let keys = keys.unwrap_or("");
     let keys = keys.strip_suffix("`\n").unwrap_or(keys);
-    let search = Search {
-        alloc,
-        text,
-        said,
-        keys,
-    };
-    match search.fault::<T>() {
+    match fault_of::<T>(alloc, text, said, keys) {
         Ok(Some(fault)) => Ok(SettingsError::At(marked_at(alloc, text, fault)?)),
         Err(ParseError::OutOfMemory) => Err(AllocError),
         Ok(None) | Err(ParseError::At(..)) => {
@@ -122,4 +136,129 @@ fn with_keys(alloc: Global, said: &str, keys: &str) -> Result<String, AllocError
         return String::from_str(alloc, said);
     }
     format!(in alloc; "{said} in `{keys}`")
+}
+
+/// Returns the fault of a document with the error `said` below these keys, if its place is known: the same values in JSON have an error at
+/// the same path.
+fn fault_of<T: DeserializeOwned>(
+    alloc: Global,
+    text: &str,
+    said: &str,
+    keys: &str,
+) -> Result<Option<Fault>, ParseError> {
+    let json = as_json(alloc, text)?;
+    let error = match serde_json::from_str::<Owned<T>>(alloc, &json) {
+        Ok(_) => return Ok(None),
+        Err(error) if error.is_memory() => return Err(ParseError::OutOfMemory),
+        Err(error) => error,
+    };
+    let mut scratch = Scratch::new(alloc);
+    let (mut path, token) = path_to(alloc, &json, offset_of(&json, &error), &mut scratch)?;
+    if said == "invalid length" && !matches!(token, Token::EndArray) {
+        // It is the array that has an item too many.
+        path.pop();
+    }
+    let is_key = matches!((path.last(), token), (Some(Step::Key(..)), Token::Key(_)));
+    let Some(steps) = steps_to(alloc, &path, is_key, said, keys)? else {
+        return Ok(None);
+    };
+    path.truncate(steps);
+    let Some(place) = place_of(alloc, text, &path)? else {
+        return Ok(None);
+    };
+    let is_key = is_key || said.starts_with(NO_VARIANT);
+    Ok(Some(fault_at(alloc, text, said, place, is_key)?))
+}
+
+/// Returns the values of a document in JSON, with another number in place of each `inf` and `nan`, which JSON does not have.
+fn as_json(alloc: Global, text: &str) -> Result<String, AllocError> {
+    let table = toml::table_from_str(alloc, text).map_err(|_| AllocError)?;
+    let json = serde_json::to_string(alloc, &table).map_err(|_| AllocError)?;
+    let mut scratch = Scratch::new(alloc);
+    let mut reader = Reader::new(&json, &mut scratch)?;
+    let (mut finite, mut copied) = (String::new(alloc), 0);
+    for _ in 0..json.len() {
+        let at = reader.offset();
+        let Some(token) = reader.next() else {
+            break;
+        };
+        if matches!(token, Token::Null) {
+            finite.push_str(json.get(copied..at).unwrap_or(""))?;
+            finite.push_str("0.5")?;
+            copied = at.saturating_add("null".len());
+        }
+    }
+    finite.push_str(json.get(copied..).unwrap_or(""))?;
+    Ok(finite)
+}
+
+/// Returns how many steps of the path to a token lead to what has the error `said`, or `None` if these keys do not tell.
+fn steps_to(
+    alloc: Global,
+    path: &[Step<'_>],
+    is_key: bool,
+    said: &str,
+    keys: &str,
+) -> Result<Option<usize>, AllocError> {
+    let Some(steps) = steps_with(alloc, path, keys)? else {
+        return Ok(None);
+    };
+    if said.starts_with(NO_VARIANT) {
+        // The token is anywhere in the value. An item has the same keys as its array.
+        let is_item = matches!(path.get(..steps), Some([.., Step::Item(_)]));
+        return Ok((!is_item).then_some(steps));
+    }
+    // The error of a key has the keys of its table, too.
+    let is_same = path.len() <= steps.saturating_add(is_key as usize);
+    Ok(is_same.then_some(path.len()))
+}
+
+/// Returns the greatest number of steps of a path that have these keys, which `toml` cuts at 80 bytes.
+fn steps_with(alloc: Global, path: &[Step<'_>], keys: &str) -> Result<Option<usize>, AllocError> {
+    let mut joined = String::new(alloc);
+    let mut found = keys.is_empty().then_some(0);
+    for (at, step) in path.iter().enumerate() {
+        if let Step::Key(key, _) = step {
+            if !joined.is_empty() {
+                joined.push('.')?;
+            }
+            joined.push_str(key)?;
+        }
+        if Message::of(joined.as_str()).as_str() == keys {
+            found = Some(at.saturating_add(1));
+        }
+    }
+    Ok(found)
+}
+
+/// Returns the fault with the error `said` at a place, of the key or of the value.
+fn fault_at(
+    alloc: Global,
+    text: &str,
+    said: &str,
+    place: Place<'_>,
+    is_key: bool,
+) -> Result<Fault, ParseError> {
+    let offset_of = |rest: &str| text.len().saturating_sub(rest.len());
+    let string = if is_key { place.key } else { place.value };
+    if let Some(fault) = fault_in_front(alloc, said, string)? {
+        return Ok(fault.after(offset_of(string)));
+    }
+    let message = String::from_str(alloc, said)?;
+    let start = if is_key {
+        // A header begins before its key.
+        offset_of(place.key).min(offset_of(place.value))
+    } else {
+        offset_of(place.value)
+    };
+    Ok(Fault::at(start, message))
+}
+
+/// Returns the fault of the string or the bare key at the front, if it has the error `said` of a duration or a timestamp.
+fn fault_in_front(alloc: Global, said: &str, front: &str) -> Result<Option<Fault>, ParseError> {
+    if starts_string(front) {
+        let (text, _) = quoted(alloc, front)?;
+        return Ok(fault_in(alloc, said, front, &text)?);
+    }
+    Ok(fault_in(alloc, said, front, bare_name(front))?)
 }

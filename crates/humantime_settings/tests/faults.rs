@@ -85,6 +85,10 @@ const JSON: &[Case<'static>] = &[
     (r#"{"counts":[1, 9223372036854775808 ]}"#, 1, 15, "", "invalid value: number `9223372036854775808`"),
     ("{\"timeout\":\"2h\",\n \"timeout\" :\n\"2h\"}", 2, 2, "", "duplicate field `timeout`"),
     ("{\"timeout\":\"2h\",\"time\\u006fut\":\"\\\"\"}", 1, 17, "", "duplicate field `timeout`"),
+    // A field that stands twice, whose value is read first or not, and is a string, a list or a map.
+    (r#"{"job":{"name":"a","name":"b"}}"#, 1, 20, "", "duplicate field `name`"),
+    (r#"{"waits":["1s"],"waits":["2s"]}"#, 1, 17, "", "duplicate field `waits`"),
+    (r#"{"ends":{},"ends":{"a":"2018-02-14 00:28:07"}}"#, 1, 12, "", "duplicate field `ends`"),
     // What is missing, unknown or cut.
     ("{\"timeout\":\"2h\",\n\"job\":{ \"nm\\u0061e\\n\":1}}", 2, 9, "", "unknown field `nmae\n`"),
     ("{\n  \"timeout\": \"2h\",\n  \"job\": {\"name\": \"é\", \"every\": \"5us\"}\n}", 3, 38, "", "missing field `since`"),
@@ -144,7 +148,14 @@ const TOML: &[Case<'static>] = &[
     // A header with blanks, a quoted key and a comment, and one behind tables whose last keys are the same.
     ("timeout = '1s'\nJOB\n[ \t\"days\" ] # days\na = '1h'\n", 7, 7, "h", "timestamp format is invalid"),
     ("timeout = '1s'\nJOB\n[x.job]\nevery = '1~'\n[x.days]\na = '1h'\n[days]\na = '2h'\n", 11, 7, "h", "timestamp format is invalid"),
-    // Items of one list, of different types: the first of the type that the error names.
+    // A header makes a map, and one in two brackets a list.
+    ("timeout = '2h'\nJOB\n[counts]\na = 1\n", 6, 1, "", "invalid type: map, expected a sequence"),
+    ("timeout = '2h'\nJOB\n[['more.every']]\n[['more.every']]\n", 6, 1, "", "invalid type: sequence, expected a string"),
+    // Numbers that JSON does not have, and texts that it has for them.
+    ("timeout = inf\nJOB", 1, 11, "", "expected a duration in quotes"),
+    ("timeout = '2h'\nJOB\nkeep = -nan # null\n", 6, 8, "", "expected a duration in quotes"),
+    ("timeout = '2h'\nx = [nan, ',null,', -inf]\nnull = [[nan], inf]\nzone = 5\nJOB", 4, 8, "", "expected a timestamp in quotes"),
+    // Items of one list, of different types: the first that is no integer.
     ("timeout = '2h'\ncounts = [ 1, true, 2.5 ]\nJOB", 2, 15, "", "invalid type: boolean `true`, expected an integer"),
     ("timeout = '2h'\ncounts = [ 1, 2.5, true ]\nJOB", 2, 15, "", "invalid type: floating point `2.5`, expected an integer"),
     ("timeout = '2h'\ncounts = [ 1, { a = 1 } ]\nJOB", 2, 15, "", "invalid type: map, expected an integer"),
@@ -165,6 +176,7 @@ const TOML: &[Case<'static>] = &[
     ("timeout = '2h'\n'job.every' = '1~'\n[job]\nname = 'a'\nevery = '1~'\nsince = '2018-02-14 00:28:07'", 5, 11, "~", "invalid character at 1"),
     ("timeout = '2h'\n'job.name' = 5\n[job]\nname = 5\n", 4, 8, "", "invalid type: integer `5`, expected a string"),
     ("timeout = '2h'\n'more.every' = 5\nJOB\n[[more]]\nname = 'a'\nsince = '2018-02-14 00:28:07'\n[more.every]", 10, 1, "", "expected a duration in quotes"),
+    ("timeout = '2h'\n'more.every' = 5\nJOB\n[[more]]\nname = 'a'\nevery = '1s'\nsince = '2018-02-14 00:28:07'\n", 2, 16, "", "invalid type: integer `5`, expected a string"),
     // A value that has the same text, and is right.
     ("timeout = '2h'\n'more.every' = '1~'\nJOB\n[[more]]\nname = 'a'\nevery = '1~'\nsince = '2018-02-14 00:28:07'\n", 9, 11, "~", "invalid character at 1"),
     // Keys whose texts are the same without the dot.
@@ -266,15 +278,37 @@ fn arrays_in_one_another(rt: HostRuntime) -> Result<(), Fail> {
 }
 
 #[test]
+fn each_byte_alone(rt: HostRuntime) -> Result<(), Fail> {
+    let formats: [Read; 2] = [json, toml];
+    for byte in 0..0x80_u8 {
+        let text = format!(in rt.alloc(); "{}", char::from(byte))?;
+        for read in formats {
+            match read(rt.alloc(), &text) {
+                Some(SettingsError::At(fault)) => assert!(rt; fault.at <= 1),
+                other => panic!(rt; "{other:?} {text:?}"),
+            }
+        }
+    }
+    Ok(())
+}
+
+#[test]
 fn errors_behind_much_else(rt: HostRuntime) -> Result<(), Fail> {
     let alloc = rt.alloc();
     let (tabs, others) = ("\\t".repeat(alloc, 10_000)?, "'1s', ".repeat(alloc, 5_000)?);
-    let cases: [(Read, &str, usize, usize, &str); 4] = [
+    let cases: [(Read, &str, usize, usize, &str); 5] = [
         (json, "{\"timeout\":\"TABS1~\"}", 1, 20_014, "invalid character at 10001"),
         (toml, "timeout = \"TABS1~\"", 1, 20_013, "invalid character at 10001"),
         (toml, "timeout = '1s'\npauses = [OTHERS'1~']\nJOB", 2, 30_013, "invalid character at 1"),
         (toml, "others = [OTHERS'1s']\ntimeout = '1~'\nJOB", 2, 13, "invalid character at 1"),
+        (toml, "timeout = '1s'\nwaits = [OTHERS'1~', '2~', '1~', '1~', '1~', '1~', '1~', '1~', '1~', '1~']\nJOB", 2, 30_012, "invalid character at 1"),
     ];
+    // Of 251 numbers and tables, the last one is wrong.
+    let (counts, tables) = ("1, ".repeat(alloc, 250)?, "[[more]]\nname = 'a'\nevery = '1s'\nsince = '2018-02-14 00:28:07'\n".repeat(alloc, 250)?);
+    let text = format!(in alloc; "timeout = '1s'\ncounts = [{counts}1.5]\nJOB")?;
+    assert_errors(&rt, toml, TOML_JOB, &[(text.as_str(), 2, 761, "", "invalid type: floating point `1.5`, expected an integer")])?;
+    let text = format!(in alloc; "timeout = '1s'\nJOB\n{tables}[[more]]\nname = 'a'\nevery = 5")?;
+    assert_errors(&rt, toml, TOML_JOB, &[(text.as_str(), 1008, 9, "", "expected a duration in quotes")])?;
     for (read, document, line, column, message) in cases {
         let text = document.replace(alloc, "TABS", &tabs)?.replace(alloc, "OTHERS", &others)?;
         assert_errors(&rt, read, TOML_JOB, &[(text.as_str(), line, column, "~", message)])?;

@@ -21,6 +21,8 @@ struct Part {
 #[derive(Debug, Drop, Deserialize)]
 struct Outer {
     part: Part,
+    #[serde(default)]
+    inner: Vec<Part>,
 }
 
 #[derive(Debug, Drop, Deserialize)]
@@ -80,6 +82,9 @@ const KEYS: &[Case<'static>] = &[
     ("[[outers]]\npart.name = 'a'\n[[outers]]\npart.every = '1s'\n", 2, 1, "", "missing field `every`"),
     ("outers = [{ part.every = '1s' }, { part.name = 'b', part.x = 1 }]", 1, 36, "", "missing field `every`"),
     ("outers = [{ part.every = '1s', part.name = 'b' }, { x = 1 }]", 1, 51, "", "missing field `part`"),
+    ("[[outers]]\n[[outers]]\npart.every = '1s'\n", 1, 1, "", "missing field `part`"),
+    ("[[outers]]\npart.every = '1s'\n[[outers.inner]]\nevery = '1s'\n[[outers.inner]]\nevery = '2s'\n[[outers]]\npart.every = '1s'\n[[outers.inner]]\nevery = '3s'\n[[outers.inner]]\nname = 'a'\n", 11, 1, "", "missing field `every`"),
+    ("[counts.1s.x]\n[counts]\n2s = 1\n", 1, 9, "", "invalid type: map, expected an integer"),
     // The front part of a key is marked where a table is wrong, or unknown.
     ("wait.x = 1\nwait.y = 2\n", 1, 1, "", "expected a duration in quotes"),
     ("[wait.x]\n", 1, 2, "", "expected a duration in quotes"),
@@ -101,10 +106,13 @@ const KEYS: &[Case<'static>] = &[
     ("modes = [{ Slow = 1 }, { Slwo = 2 }, { Slwo = 3 }]", 1, 26, "", "unknown variant `Slwo`"),
     // Other errors are marked at the only place with their keys, and among several if other values in these places show it.
     ("pair = [1]", 1, 8, "", "invalid length"),
+    ("counts = 1979-05-27", 1, 10, "", "expected number at 0"),
+    ("mode = 1979-05-27", 1, 8, "", "wanted string or table"),
     ("pair = [1, 2, 3]", 1, 8, "", "invalid length"),
     ("either = 'x'", 1, 1, "", "data did not match any variant of untagged enum"),
     ("either.x = 1\neither.y = 2", 1, 1, "", "data did not match any variant of untagged enum"),
     ("eithers = [1, 'x', 2]", 0, 0, "", "data did not match any variant of untagged enum in `eithers`"),
+    ("mode = { Fast = {} }\nwait = 5", 0, 0, "", "expected a duration in quotes in `wait`"),
     ("[[eithers]]\nx = 1\n[[eithers]]\nx = 1\n", 0, 0, "", "data did not match any variant of untagged enum in `eithers`"),
 ];
 
@@ -117,7 +125,7 @@ fn errors_of_keys(rt: HostRuntime) -> Result<(), Fail> {
 fn keys_of_over_80_bytes(rt: HostRuntime) -> Result<(), Fail> {
     let alloc = rt.alloc();
     // `texts.` and 74 bytes are named in full, and of more only whole characters.
-    for (count, end) in [(74, ""), (75, ""), (76, ""), (200, ""), (70, "ékkkk"), (68, "𝄞kkkk")] {
+    for (count, end) in [(74, ""), (75, ""), (76, ""), (77, ""), (80, ""), (81, ""), (200, ""), (300, ""), (70, "ékkkk"), (68, "𝄞kkkk")] {
         let key = format!(in alloc; "{}{end}", "k".repeat(alloc, count)?)?;
         for (lines, line, column, marked, message) in [
             ("'K' = '~'", 2, 7, "~", "expected number at 0"),
