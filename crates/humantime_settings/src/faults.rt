@@ -13,11 +13,6 @@ pub(crate) const WANTS_DURATION: &str = "expected a duration in quotes";
 /// The error of a value that is no text, where a timestamp is wanted.
 pub(crate) const WANTS_TIMESTAMP: &str = "expected a timestamp in quotes";
 
-/// Returns the message of an error.
-pub(crate) fn message_of<E: Display + Drop>(error: E) -> Message {
-    Message::of(error)
-}
-
 /// What is wrong with a text, and where.
 #[derive(Drop)]
 pub(crate) struct Fault {

@@ -7,7 +7,7 @@ ghost use Rattle.serde.specs.Steps.{Begins, Gives};
 ghost use Rattle.humantime.specs.Prelude.{IsPrinted, duration_answer, duration_text, places_of, weak_answer};
 ghost use Rattle.humantime_settings.specs.Texts.{Form, AreEntries, AreTexts, IsMapFrom, IsText, IsTextOrNothing, Reads, ReadsEntry, Writes};
 
-use crate::faults::{Message, WANTS_DURATION, WANTS_TIMESTAMP, message_of};
+use crate::faults::{Message, WANTS_DURATION, WANTS_TIMESTAMP};
 use humantime::laws::printed_moment_reads;
 use humantime::{
     Duration, StdDuration, SystemTime, Timestamp, format_duration, format_rfc3339, parse_duration,
@@ -122,21 +122,7 @@ pub fn deserialize<'de, T: Field, F: Format>(
 /// ```
 pub trait Field: Value {}
 
-impl Field for StdDuration {}
-
-impl Field for SystemTime {}
-
-impl Field for Duration {}
-
-impl Field for Timestamp {}
-
-impl Field for time::Duration {}
-
-impl<T: Field + Text> Field for Option<T> {}
-
-impl<T: Field + Text> Field for Vec<T> {}
-
-impl<T: Field + Text> Field for BTreeMap<String, T> {}
+impl<T: Value> Field for T {}
 
 /// What a field does. No other crate can name this trait.
 trait Value: Sized + Drop {
@@ -214,8 +200,8 @@ trait Text: Sized + Drop {
     fn write_text<S: Serializer>(&self, out: &mut S) -> Result<(), S::Error>
         ensures { OnOk result ((t : List ℕ) × IsPrintedAs self.now t × IsParsedFrom self.now t × Logs (S.written out.old) (S.written out.new) (text t)) };
 
-    /// Returns the error of a value that is no text.
-    fn wanted() -> &'static str;
+    /// The error of a value that is no text.
+    const WANTED: &'static str;
 
     /// Parses a text, or returns the message of the error.
     fn parse_text(text: &str) -> Result<Self, Message>
@@ -376,7 +362,7 @@ fn no_text<T: Text, F: Format>(from: &Deserializer<'_, '_, F>, error: F::Error) 
     if from.is_fatal(&error) {
         error
     } else {
-        from.custom(T::wanted())
+        from.custom(T::WANTED)
     }
 }
 
@@ -385,16 +371,14 @@ impl Text for StdDuration {
 
     ghost IsParsedFrom = { λ d t. duration_answer (chars t) ≡ Ok d };
 
+    const WANTED: &'static str = WANTS_DURATION;
+
     fn write_text<S: Serializer>(&self, out: &mut S) -> Result<(), S::Error> {
         out.str(format_duration(*self).text(&mut [0; 64]))
     }
 
-    fn wanted() -> &'static str {
-        WANTS_DURATION
-    }
-
     fn parse_text(text: &str) -> Result<StdDuration, Message> {
-        parse_duration(text).map_err(|error| message_of(error))
+        parse_duration(text).map_err(|error| Message::of(error))
     }
 }
 
@@ -403,12 +387,10 @@ impl Text for Duration {
 
     ghost IsParsedFrom = { λ d t. duration_answer (chars t) ≡ Ok d };
 
+    const WANTED: &'static str = WANTS_DURATION;
+
     fn write_text<S: Serializer>(&self, out: &mut S) -> Result<(), S::Error> {
         self.as_ref().write_text(out)
-    }
-
-    fn wanted() -> &'static str {
-        StdDuration::wanted()
     }
 
     fn parse_text(text: &str) -> Result<Duration, Message> {
@@ -421,12 +403,10 @@ impl Text for time::Duration {
 
     ghost IsParsedFrom = { λ d t. duration_answer (chars t) ≡ Ok (as_nanos d) };
 
+    const WANTED: &'static str = WANTS_DURATION;
+
     fn write_text<S: Serializer>(&self, out: &mut S) -> Result<(), S::Error> {
         StdDuration::from_std(*self).write_text(out)
-    }
-
-    fn wanted() -> &'static str {
-        StdDuration::wanted()
     }
 
     fn parse_text(text: &str) -> Result<time::Duration, Message> {
@@ -439,6 +419,8 @@ impl Text for SystemTime {
 
     ghost IsParsedFrom = { λ m t. weak_answer t ≡ Ok m };
 
+    const WANTED: &'static str = WANTS_TIMESTAMP;
+
     fn write_text<S: Serializer>(&self, out: &mut S) -> Result<(), S::Error> {
         let stamp = format_rfc3339(*self);
         printed_moment_reads(&stamp);
@@ -448,12 +430,8 @@ impl Text for SystemTime {
         }
     }
 
-    fn wanted() -> &'static str {
-        WANTS_TIMESTAMP
-    }
-
     fn parse_text(text: &str) -> Result<SystemTime, Message> {
-        parse_rfc3339_weak(text).map_err(|error| message_of(error))
+        parse_rfc3339_weak(text).map_err(|error| Message::of(error))
     }
 }
 
@@ -462,12 +440,10 @@ impl Text for Timestamp {
 
     ghost IsParsedFrom = { λ m t. weak_answer t ≡ Ok m };
 
+    const WANTED: &'static str = WANTS_TIMESTAMP;
+
     fn write_text<S: Serializer>(&self, out: &mut S) -> Result<(), S::Error> {
         self.as_ref().write_text(out)
-    }
-
-    fn wanted() -> &'static str {
-        SystemTime::wanted()
     }
 
     fn parse_text(text: &str) -> Result<Timestamp, Message> {
