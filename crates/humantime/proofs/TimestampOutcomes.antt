@@ -1,7 +1,7 @@
 -- A text of a timestamp has exactly one moment or one error.
 use Rattle.std.proofs.lemmas.Grind.{common_steps}
 use Rattle.std.proofs.Common.{◌≡◌, ℕ, ◌+◌, ◌/◌, ◌%◌, ◌≤◌, List, length, drop, refl, arith, ◌++◌, rules, ◌≢◌, ap, ◌∙◌}
-use Rattle.std.specs.Prelude.{true, slice_index, Option, None, ◌↔◌, ℤ, Bool, Err, if◌then◌else◌}
+use Rattle.std.specs.Prelude.{true, false, slice_index, Option, None, ◌↔◌, ℤ, Bool, Result, Err}
 use Rattle.std.proofs.lemmas.Bool.{le-leb}
 use Rattle.std.proofs.lemmas.Bool.Decides.{nat_tests}
 use Rattle.std.specs.List.{AllByRecursion}
@@ -9,7 +9,7 @@ use Rattle.humantime.specs.Timestamps.{Fields, fraction_text, fraction_digits, f
 use Rattle.humantime.specs.Laws.{IsMarked, HasOneTimestamp}
 use Rattle.humantime.specs.declared.date.error.TimestampError.{TimestampError}
 use Rattle.humantime.specs.declared.date.error.TimestampError.TheVariants.{InvalidFormat}
-use Rattle.humantime.specs.TimestampResults.{moment_at, weak_answer, strict_answer, moment_or_error}
+use Rattle.humantime.specs.TimestampResults.{moment_at, weak_answer, strict_answer, moment_or_error, IsWeakAnswer, IsStrictAnswer}
 use Rattle.humantime.proofs.Dates.{valid_from_test}
 use Rattle.humantime.proofs.TimestampParts.{digits_hold, IsPlain, plain_bytes, zone_found, number_of_two, number_of_four, digits_from_test, zone_shown, has_two_from_test, holds_before_zone, some_zone}
 use Rattle.humantime.proofs.Checks.{digits_behind_point, fields_of, all_passed, pairs_from_test, part_digits, nineteen}
@@ -119,10 +119,23 @@ unfolding strict_answer
 strict_outcome bytes =
     outcome_of_checks bytes (strict_checks bytes) (IsStrict bytes) (λ f. grind (arith, (strict_checked bytes f), (weak_fields bytes f), (fields_weak bytes)))
 
+-- The results of the parsers are those that are computed.
+pub weak_told : (bytes : List ℕ) (r : Result ℤ TimestampError) → r ≡ weak_answer bytes → IsWeakAnswer bytes r
+weak_told bytes r is = let one = weak_outcome bytes in rw is (record { value = one.value; error = one.error; answer = refl })
+
+pub strict_told : (bytes : List ℕ) (r : Result ℤ TimestampError) → r ≡ strict_answer bytes → IsStrictAnswer bytes r
+strict_told bytes r is = let one = strict_outcome bytes in rw is (record { value = one.value; error = one.error; answer = refl })
+
 -- The result of the strict form, by its own check.
-pub strict_by_marks : (bytes : List ℕ) → (if has_t_and_zone bytes then weak_answer bytes else Err InvalidFormat) ≡ strict_answer bytes
+pub strict_if_marked : (bytes : List ℕ) → has_t_and_zone bytes ≡ true → strict_answer bytes ≡ weak_answer bytes
 unfolding weak_answer strict_answer
-strict_by_marks bytes = grind arith
+strict_if_marked bytes marked = grind arith
+
+pub strict_unless_marked : (bytes : List ℕ) → has_t_and_zone bytes ≡ false → strict_answer bytes ≡ Err InvalidFormat
+unfolding strict_answer
+strict_unless_marked bytes unmarked = grind arith
+
+pub ruleset strict_marks = (strict_if_marked, strict_unless_marked)
 
 pub strict_moment_is_weak : (bytes : List ℕ) (t : ℤ) → IsStrictMoment bytes t ↔ (IsWeakMoment bytes t × IsMarked bytes)
 strict_moment_is_weak bytes t = grind (arith, (strict_is_marked_weak bytes))

@@ -3,7 +3,7 @@
 ghost use Rattle.std.specs.Prelude.{◌≡◌, ◌^◌, ◌<◌, ◌≤◌, length, false, IsTrue, IfSome, SomeIff, option_map, Err};
 ghost use Rattle.std.specs.Char.{is_ascii_digit};
 ghost use Rattle.std.specs.List.{list_all};
-ghost use Rattle.humantime.specs.Prelude.{IsStrictAnswer, IsWeakAnswer, weak_answer};
+ghost use Rattle.humantime.specs.Prelude.{IsStrictAnswer, IsWeakAnswer, strict_answer, weak_answer};
 ghost use Rattle.humantime.specs.Timestamps.{ZeroOffset, seconds_of, date_time_of, is_valid_date_time};
 ghost use Rattle.humantime.specs.Timestamps as Checks;
 ghost use Rattle.humantime.specs.StepsOfCalls.{date_time_view, fraction_answer, digits_answer};
@@ -76,6 +76,7 @@ struct DateTime {
 /// assert_eq!(rt; parse_rfc3339_weak("1970-01-01 00:00:00.5+02:00"), Err(TimestampError::InvalidDigit));
 /// ```
 #[inline(always)]
+#[tactic(auto, using(crate::proofs::TimestampOutcomes::weak_told))]
 pub fn parse_rfc3339_weak(s: &str) -> Result<SystemTime, TimestampError>
     ensures { IsWeakAnswer s.now result }
 {
@@ -104,13 +105,23 @@ pub fn parse_rfc3339_weak(s: &str) -> Result<SystemTime, TimestampError>
 /// assert_eq!(rt; parse_rfc3339("2100-02-29T00:00:00Z"), Err(TimestampError::OutOfRange));
 /// ```
 #[inline(always)]
+#[tactic(auto, using(crate::proofs::TimestampOutcomes::strict_told))]
 pub fn parse_rfc3339(s: &str) -> Result<SystemTime, TimestampError>
     ensures { IsStrictAnswer s.now result }
 {
-    if !has_t_and_zone(s.as_bytes()) {
+    read_strict(s.as_bytes())
+}
+
+/// Parses the bytes of a timestamp in the strict form. Returns the time, or the error of the first check that fails.
+#[inline(always)]
+#[tactic(auto, using(crate::proofs::TimestampOutcomes::strict_marks))]
+fn read_strict(bytes: &[u8]) -> Result<SystemTime, TimestampError>
+    ensures { result ≡ strict_answer bytes.now }
+{
+    if !has_t_and_zone(bytes) {
         return Err(TimestampError::InvalidFormat);
     }
-    parse_rfc3339_weak(s)
+    read_timestamp(bytes)
 }
 
 /// Returns `true` if the text has at least 20 bytes, byte 10 is a `T`, and a zone is at the end.
