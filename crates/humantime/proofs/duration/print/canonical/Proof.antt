@@ -1,23 +1,5 @@
--- The contract of `canonical`, proved by hand.
---
--- The kit proves a clause `ensures*`, which here says that an error leaves the buffer unchanged, by itself only if the buffer is the first parameter and
--- a struct or of a generic type. Here it is the second one, and an array. So this proof walks through the compiled body, a call of `write_canonical` and
--- one of `text_or_error`, in the kit's separation logic. What is held at a point, such as a reference, the token of a lifetime or a known fact, is
--- a list. A comment in brackets shows it, and `move` and `keep` choose from it by position.
---
---  1. `s`, `buf` and the tokens of their lifetimes are taken apart, and the body is entered (`enter`).
---  2. A lifetime α begins, for which `buf` is lent again (`lends_again`).
---  3. `write_canonical` is called by its contract `G` (`calls_at`). `heard` names each fact that it ensures.
---  4. α ends, and `buf` is back (`comes_back`), with the last bytes `y`.
---  5. `buf` is shared for the rest of its own lifetime (`ref_Share`), so that the result may borrow from it.
---  6. `text_or_error` is called by its contract `H`, whose two requirements follow from what was heard.
---  7. The body returns (`returns`), and the clauses of `canonical` follow (`ends_at`): all but the last as facts, and the last by `holds`, from
---     the last bytes of `buf`.
---
--- A change of the body, or of a clause of `write_canonical` or `text_or_error`, changes the steps above that name it: `rt check` then stops at the first
--- step that does not fit, and prints what is held there, which is to be compared with the list in brackets before it. A new version of the kit may
--- rename or change what comes from its libraries `base`, `borrow`, `contract`, `denote`, `mir`, `seplogic` and `types`, also by way of
--- `proofs/StandardFacts.antt`, or hand over the resources in another order.
+-- The contract of `canonical`, proved by hand, in the seven steps that `proofs/date/print/Rfc3339Timestamp/text/Proof.antt` describes. Here the
+-- calls are those of `write_canonical` and `text_or_error`.
 use Rattle.humantime.proofs.StandardFacts.{Val, ◌≡◌, ℕ, ◌≤◌, List, [], ◌∷◌, refl, MutBor, proved, full_share, id⊢, emp, ftrue, flft, fres, named, fact, fact_i, tables, ‵, raw, ◌⊛◌, some, later, ◌$◌, ◌∵◌, !, qed, by, move, keep, drop, use0, use1, use2, use3, split, join, fsplit, fjoin, feq_i, feq_l, pick, await, suffices, frame, enter, addr, stop, no_more, and_then, returns, alloc_all, pass_all, free_all, look_at, get, through, sets, of_opd, lands_as, shows, MutRef, mut_vals, shr_vals, mut_Tells, plain, nothing, heard, peeks, calls_at, lasts, triple_of, Stays, stay_dropped, Goes-dropped, Goes-spent_ref, ends_at, yes, no, framed}
 use mir.Syntax.{w8, erased}
 use Rattle.std.specs.Borrow.{Array, u8}
