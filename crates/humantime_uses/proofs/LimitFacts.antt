@@ -123,13 +123,11 @@ older_span s unit is = (
 
 -- A fraction had at most 19 digits, zeros counted. Their product with what they are parts of did not exceed a `u64`, and was a multiple of
 -- their power of ten. Nanoseconds had no fraction.
-older_fraction : (part : _) (ds : List ℕ) → OlderFraction (Some part) (Some ds)
-    ↔ ((length ds ≤ 19) × (decimal_value ds * size part ≤ greatest) × (decimal_value ds * size part % 10 ^ length ds ≡ 0))
+older_fraction : (part : _) (ds : List ℕ) → (OlderFraction (Some part) (Some ds)
+    ↔ ((length ds ≤ 19) × (decimal_value ds * size part ≤ greatest) × (decimal_value ds * size part % 10 ^ length ds ≡ 0)))
+    × OlderFraction (Some part) None × OlderFraction None None × ¬ (OlderFraction None (Some ds))
 older_fraction part ds =
-    (λ h. (h.0, grind (arith, nat_tests, (h.1)), grind (arith, nat_tests, (h.1))), λ h. (h.0, grind (arith, nat_tests, (h.1), (h.2))))
-
-no_older_fraction : (part : _) (ds : List ℕ) → OlderFraction part None × ¬ (OlderFraction None (Some ds))
-no_older_fraction part ds = (tt, λ h. h)
+    ((λ h. (h.0, grind (arith, nat_tests, (h.1)), grind (arith, nat_tests, (h.1))), λ h. (h.0, grind (arith, nat_tests, (h.1), (h.2)))), tt, tt, λ h. h)
 
 -- Spans were accepted if there was room for each addition.
 older_spans : (text : List ℕ) (spans : List SpelledSpan) → Reads text spans → AllByRecursion OlderFormed spans → AllHaveRoom (older_additions spans)

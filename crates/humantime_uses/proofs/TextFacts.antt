@@ -114,16 +114,14 @@ of_durations : (at : ℕ)
     ∷ codes "value was empty" ∷ []
 of_durations at = refl
 
--- The unit is missing.
-missing_unit : (start end value : ℕ) → fault_message (UnknownUnit start end [] value)
-    ≡ codes "time unit needed, for example " ++ decimal value ++ codes "sec or " ++ decimal value ++ codes "ms"
-missing_unit start end value = refl
-
--- Any other unit is repeated, whatever its length. The message has the micro sign.
-unknown_unit : (start end b : ℕ) (bs : List ℕ) (value : ℕ) → fault_message (UnknownUnit start end (b ∷ bs) value)
+-- The unit is missing, or it is repeated, whatever its length. The message has the micro sign.
+of_units : (start end value b : ℕ) (bs : List ℕ)
+    → (fault_message (UnknownUnit start end [] value)
+    ≡ codes "time unit needed, for example " ++ decimal value ++ codes "sec or " ++ decimal value ++ codes "ms")
+    × (fault_message (UnknownUnit start end (b ∷ bs) value)
     ≡ codes "unknown time unit \"" ++ (b ∷ bs)
-    ++ (codes "\", supported units: ns, us/" ++ 0xc2 ∷ 0xb5 ∷ codes "s, ms, sec, min, hours, days, weeks, months, years (and few variations)")
-unknown_unit start end b bs value = refl
+    ++ (codes "\", supported units: ns, us/" ++ 0xc2 ∷ 0xb5 ∷ codes "s, ms, sec, min, hours, days, weeks, months, years (and few variations)"))
+of_units start end value b bs = (refl, refl)
 
 of_timestamps :
     map timestamp_message (OutOfRange ∷ InvalidDigit ∷ InvalidFormat ∷ [])

@@ -33,18 +33,12 @@ any_checks : (b : List ℕ)
 unfolding timestamps_on_literals
 any_checks b = refl
 
-any_digits : (b : List ℕ) (k : ℕ) → has_two b k ≡ (is_ascii_digit (slice_index b k) && is_ascii_digit (slice_index b (k + 1)))
+any_parts : (b : List ℕ) (k : ℕ) (x : _) (y m d : ℕ)
+    → (has_two b k ≡ (is_ascii_digit (slice_index b k) && is_ascii_digit (slice_index b (k + 1))))
+    × (is_valid_date_time x ≡ (is_valid x.date.year x.date.month x.date.day && nat_le x.hour 23 && nat_le x.minute 59 && nat_le x.second 60))
+    × (is_valid y m d ≡ ((nat_le 1970 y && nat_le y 9999) && (nat_le 1 m && nat_le m 12) && (nat_le 1 d && nat_le d (days_in_month y m))))
 unfolding timestamps_on_literals
-any_digits b k = refl
-
-any_range : (x : _)
-    → is_valid_date_time x ≡ (is_valid x.date.year x.date.month x.date.day && nat_le x.hour 23 && nat_le x.minute 59 && nat_le x.second 60)
-unfolding timestamps_on_literals
-any_range x = refl
-
-any_date : (y m d : ℕ) → is_valid y m d
-    ≡ ((nat_le 1970 y && nat_le y 9999) && (nat_le 1 m && nat_le m 12) && (nat_le 1 d && nat_le d (days_in_month y m)))
-any_date y m d = refl
+any_parts b k x y m d = (refl, refl, refl)
 
 strict_check : (b : List ℕ)
     → strict_checks b ≡ (nat_le 20 (length b) && (slice_index b 10 == byte "T") && ends_in_zone b, InvalidFormat) ∷ weak_checks b
