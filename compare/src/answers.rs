@@ -8,6 +8,7 @@ use std::panic::{AssertUnwindSafe, catch_unwind};
 use std::time::{Duration, SystemTime, UNIX_EPOCH};
 
 /// The result of a call of the library, as `exports.rt.txt` defines it.
+#[derive(Default)]
 #[repr(C)]
 pub struct Answer<'a> {
     kind: u32,
@@ -17,12 +18,6 @@ pub struct Answer<'a> {
     end: usize,
     value: u64,
     unit: &'a [u8],
-}
-
-impl Answer<'_> {
-    pub fn new() -> Self {
-        Answer { kind: 0, nanos: 0, secs: 0, start: 0, end: 0, value: 0, unit: b"" }
-    }
 }
 
 fn duration_of(answer: &Answer) -> Result<Duration, DurationError> {
@@ -59,11 +54,7 @@ unsafe extern "C" {
     pub safe fn library_call_weak<'a>(text: &&'a str, place: &mut Answer<'a>);
     safe fn library_message(parser: u32, text: &&str, place: &mut [u8; 256]) -> usize;
     pub safe fn library_print_duration(secs: u64, nanos: u32, place: &mut [u8; 64]) -> usize;
-    pub safe fn library_print_smart(secs: i64, nanos: u32, place: &mut [u8; 30]) -> usize;
-    pub safe fn library_print_seconds(secs: i64, nanos: u32, place: &mut [u8; 30]) -> usize;
-    pub safe fn library_print_millis(secs: i64, nanos: u32, place: &mut [u8; 30]) -> usize;
-    pub safe fn library_print_micros(secs: i64, nanos: u32, place: &mut [u8; 30]) -> usize;
-    pub safe fn library_print_nanos(secs: i64, nanos: u32, place: &mut [u8; 30]) -> usize;
+    pub safe fn library_print_moment(printer: u32, secs: i64, nanos: u32, place: &mut [u8; 30]) -> usize;
     pub safe fn library_display_duration(secs: u64, nanos: u32, place: &mut [u8; 256]) -> usize;
     pub safe fn library_display_nanos(secs: i64, nanos: u32, place: &mut [u8; 256]) -> usize;
     pub safe fn library_run(command: &&str, text: &&str, out: &mut [u8; 128], err: &mut [u8; 128]) -> u8;
@@ -109,7 +100,7 @@ impl<T, E> Parser<T, E> {
     }
 
     pub fn by_library(&self, text: &str) -> Result<T, E> {
-        let mut place = Answer::new();
+        let mut place = Answer::default();
         (self.by_library)(&text, &mut place);
         (self.result_of)(&place)
     }
@@ -120,15 +111,15 @@ impl<T, E> Parser<T, E> {
     }
 }
 
-/// The name of a printer of moments, and its functions on both sides.
-pub type Printer = (&'static str, fn(SystemTime) -> Rfc3339Timestamp, extern "C" fn(i64, u32, &mut [u8; 30]) -> usize);
+/// A printer of moments: its number in `exports.rt.txt`, its name, and the crate's function.
+pub type Printer = (u32, &'static str, fn(SystemTime) -> Rfc3339Timestamp);
 
 pub const PRINTERS: [Printer; 5] = [
-    ("format_rfc3339", format_rfc3339, library_print_smart),
-    ("format_rfc3339_seconds", format_rfc3339_seconds, library_print_seconds),
-    ("format_rfc3339_millis", format_rfc3339_millis, library_print_millis),
-    ("format_rfc3339_micros", format_rfc3339_micros, library_print_micros),
-    ("format_rfc3339_nanos", format_rfc3339_nanos, library_print_nanos),
+    (0, "format_rfc3339", format_rfc3339),
+    (1, "format_rfc3339_seconds", format_rfc3339_seconds),
+    (2, "format_rfc3339_millis", format_rfc3339_millis),
+    (3, "format_rfc3339_micros", format_rfc3339_micros),
+    (4, "format_rfc3339_nanos", format_rfc3339_nanos),
 ];
 
 /// Returns the crate's text, an empty one if it returns an error, or the message of its panic.

@@ -141,7 +141,7 @@ fn race_reading<T: PartialEq + Debug, E: PartialEq + Debug, R>(
     race(
         (&kind, &format!("{verb} {shown}, {}{how}", parser.name)),
         (parse("0"), |place| crate_read(&parse, hidden(&text), place)),
-        (Answer::new(), |place| by_library(hidden(&text), place)),
+        (Answer::default(), |place| by_library(hidden(&text), place)),
     );
 }
 
@@ -160,7 +160,7 @@ fn race_random<T: PartialEq + Debug, E: PartialEq + Debug, R>(
     race(
         (&format!("parse a {noun}"), &format!("parse random texts, {}", parser.name)),
         (parse("0"), |place| crate_read(&parse, of_crate.next().expect("a text"), place)),
-        (Answer::new(), |place| by_library(of_library.next().expect("a text"), place)),
+        (Answer::default(), |place| by_library(of_library.next().expect("a text"), place)),
     );
 }
 
@@ -174,7 +174,7 @@ fn random_duration(random: &mut Random) -> String {
 /// Returns the text of a moment of 1970 to 9999 with 0, 3, 6 or 9 fraction digits.
 fn random_moment(random: &mut Random) -> String {
     // The first printer is the one that chooses the number of digits.
-    let (_, format, _) = random.of(&PRINTERS[1..]);
+    let (_, _, format) = random.of(&PRINTERS[1..]);
     format(moment(random.below(253_402_300_800) as i64, random.nanos())).to_string()
 }
 
@@ -253,9 +253,9 @@ fn timestamps_printed() {
     let in_seconds = |place: &mut String| crate_print(format_rfc3339_seconds, black_box(time), place);
     let in_nanos = |place: &mut String| crate_print(format_rfc3339_nanos, black_box(time), place);
     let row = ("print a timestamp", "print a timestamp in seconds");
-    race_writing(row, in_seconds, |place| library_print_seconds(black_box(secs), black_box(nanos), place));
+    race_writing(row, in_seconds, |place| library_print_moment(1, black_box(secs), black_box(nanos), place));
     let row = ("print a timestamp", "print a timestamp in nanoseconds");
-    race_writing(row, in_nanos, |place| library_print_nanos(black_box(secs), black_box(nanos), place));
+    race_writing(row, in_nanos, |place| library_print_moment(4, black_box(secs), black_box(nanos), place));
     let row = ("print a timestamp by `Display`", "print a timestamp in nanoseconds by `Display`");
     race_writing(row, in_nanos, |place| library_display_nanos(black_box(secs), black_box(nanos), place));
 }

@@ -60,9 +60,9 @@ fn print_duration(counts: &mut Counts, secs: u64, nanos: u32) {
 
 /// Prints a moment with the five printers on both sides, and parses each text of the library.
 fn print_moment(counts: &mut Counts, secs: i64, nanos: u32) {
-    for (name, format, print_by_library) in PRINTERS {
+    for (printer, name, format) in PRINTERS {
         let by_crate = printed(|| format(moment(secs, nanos)));
-        let by_library = text_of(|place| print_by_library(secs, nanos, place));
+        let by_library = text_of(|place| library_print_moment(printer, secs, nanos, place));
         let is_listed = secs < 0 && by_crate.is_err() && by_library.is_empty();
         let row = is_listed.then_some(PANIC_BEFORE_1970);
         print(counts, row, &by_crate, &by_library, || format!("{name} of {secs} s and {nanos} ns"));
