@@ -45,37 +45,44 @@ fn of_numbers<W: fmt::Write>(
             let date = date_of_day(number(numbers)?, &mut Turns::new());
             write_result(f, date.map(|date| (date.year, date.month, date.day)), true)
         }
-        "StdDuration::ZERO" => write_value(f, StdDuration::ZERO),
-        "StdDuration::MAX" => write_value(f, StdDuration::MAX),
-        "StdDuration::default" => {
-            let value = StdDuration::default();
-            write_result(
-                f,
-                value.parts(),
-                Duration::default() == Duration::new(value),
-            )
-        }
-        "StdDuration::checked_new" => make(f, number(numbers)?, number(numbers)?),
-        "StdDuration::from_secs" => write_value(f, StdDuration::from_secs(number(numbers)?)),
-        "StdDuration::from_micros" => write_value(f, StdDuration::from_micros(number(numbers)?)),
-        "StdDuration::checked_add" => {
-            write_some(f, duration(numbers)?.checked_add(duration(numbers)?))
-        }
-        "StdDuration::cmp" => compare(f, duration(numbers)?, duration(numbers)?),
         "UNIX_EPOCH" => write_value(f, UNIX_EPOCH),
         "SystemTime::from_parts" => {
-            write_some(
-                f,
-                SystemTime::from_parts(number(numbers)?, number(numbers)?),
-            )
+            let made = SystemTime::from_parts(number(numbers)?, number(numbers)?);
+            write_some(f, made)
         }
-        "SystemTime::checked_add" => write_some(
-            f,
-            moment(numbers)?.checked_add(duration(numbers)?),
-        ),
+        "SystemTime::checked_add" => {
+            let sum = moment(numbers)?.checked_add(duration(numbers)?);
+            write_some(f, sum)
+        }
         "SystemTime::duration_since" => differ(f, moment(numbers)?, moment(numbers)?),
         "SystemTime::cmp" => compare(f, moment(numbers)?, moment(numbers)?),
-        call => timestamps::print(f, call, moment(numbers)?)?,
+        call => match call.strip_prefix("StdDuration::") {
+            Some(name) => of_durations(f, name, numbers)?,
+            None => timestamps::print(f, call, moment(numbers)?)?,
+        },
+    })
+}
+
+/// Writes the result of a call of `StdDuration`, or returns `None` if none has this name and these numbers.
+fn of_durations<W: fmt::Write>(
+    f: &mut Formatter<W>,
+    name: &str,
+    numbers: &mut SplitWhitespace<'_>,
+) -> Option<fmt::Result> {
+    Some(match name {
+        "ZERO" => write_value(f, StdDuration::ZERO),
+        "MAX" => write_value(f, StdDuration::MAX),
+        "default" => {
+            let value = StdDuration::default();
+            let is_agreed = Duration::default() == Duration::new(value);
+            write_result(f, value.parts(), is_agreed)
+        }
+        "checked_new" => make(f, number(numbers)?, number(numbers)?),
+        "from_secs" => write_value(f, StdDuration::from_secs(number(numbers)?)),
+        "from_micros" => write_value(f, StdDuration::from_micros(number(numbers)?)),
+        "checked_add" => write_some(f, duration(numbers)?.checked_add(duration(numbers)?)),
+        "cmp" => compare(f, duration(numbers)?, duration(numbers)?),
+        _ => return None,
     })
 }
 

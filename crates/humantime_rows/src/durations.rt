@@ -28,7 +28,7 @@ pub(crate) fn parse<W: fmt::Write>(f: &mut Formatter<W>, text: &str) -> fmt::Res
                 refused == Some(error),
                 wrapped == Err(error),
                 points_into(error, text),
-                is_itself_alone(error),
+                error.clone().ok() == Some(error),
             ]);
             write_result(f, Err::<(), _>(error), is_agreed)
         }
@@ -48,33 +48,6 @@ fn points_into(error: DurationError<'_>, text: &str) -> bool {
             ..
         } => text.get(start..end) == Some(unit),
         DurationError::NumberOverflow | DurationError::Empty => true,
-    }
-}
-
-/// Returns whether the error equals its clone, and does not equal an error that differs only in its offset.
-fn is_itself_alone(error: DurationError<'_>) -> bool {
-    let is_itself = error.clone().ok() == Some(error);
-    match error {
-        DurationError::UnknownUnit {
-            start,
-            end,
-            unit,
-            value,
-        } => all_agree(&[
-            is_itself,
-            error != unknown(start.wrapping_add(1), end, unit, value),
-            error != unknown(start, end.wrapping_add(1), unit, value),
-        ]),
-        _ => is_itself,
-    }
-}
-
-fn unknown(start: usize, end: usize, unit: &str, value: u64) -> DurationError<'_> {
-    DurationError::UnknownUnit {
-        start,
-        end,
-        unit,
-        value,
     }
 }
 

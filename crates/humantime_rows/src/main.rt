@@ -3,7 +3,7 @@
 //! A line of standard input has rows with one result, such as `strict|weak "1970-01-01", "" = Err(InvalidFormat)`: one for each of its calls
 //! and each of its arguments. Empty lines and those that begin with `#` are skipped. Rows after `wrong: ` are wrong on purpose: they have to
 //! differ, and are printed with the library's result, which shows that rows are compared. Any other row that differs is printed, too, and so
-//! is a wrong one that does not. The last lines count the rows that hold, for each call and all together.
+//! is a wrong one that does not. The last line counts the rows that hold.
 #![tactic(auto)]
 
 mod calls;
@@ -17,7 +17,6 @@ mod writing;
 // Tests use these modules as a library.
 pub use crate::display::is_written;
 pub use crate::row::{Row, split_line};
-use std::collections::BTreeMap;
 use std::io;
 use std::process::ExitCode;
 
@@ -25,7 +24,7 @@ fn main(rt: HostRuntime) -> io::Result<ExitCode> {
     let table = io::read_to_string(rt.alloc(), rt.stdin())?;
     let mut tally = Tally {
         room: String::new(rt.alloc()),
-        counts: BTreeMap::new(rt.alloc()),
+        holds: 0,
         differs: 0,
         found: 0,
     };
@@ -34,32 +33,27 @@ fn main(rt: HostRuntime) -> io::Result<ExitCode> {
             tally.try_line(&rt, line)?;
         }
     }
-    let mut holds = 0_u64;
-    for (call, count) in &tally.counts {
-        println!(rt; "{call}: {count} rows hold")?;
-        holds = holds.saturating_add(*count);
-    }
-    let (differs, found) = (tally.differs, tally.found);
+    let (holds, differs, found) = (tally.holds, tally.differs, tally.found);
     println!(rt; "{holds} rows hold, {differs} do not, {found} wrong ones differ")?;
     Ok(ExitCode::from(u8::from(differs > 0)))
 }
 
 /// The rows that were tried.
 #[derive(Drop)]
-struct Tally<'a> {
+struct Tally {
     /// The texts of a row.
     room: String,
-    /// How many rows of each call hold.
-    counts: BTreeMap<&'a str, u64>,
+    /// How many rows hold.
+    holds: u64,
     /// How many rows differ, or are wrong on purpose and do not.
     differs: u64,
     /// How many rows are wrong on purpose and differ.
     found: u64,
 }
 
-impl<'a> Tally<'a> {
+impl Tally {
     /// Tries the rows of a line.
-    fn try_line(&mut self, rt: &impl Print, line: &'a str) -> io::Result<()> {
+    fn try_line(&mut self, rt: &impl Print, line: &str) -> io::Result<()> {
         let rows = line.strip_prefix("wrong: ");
         let (calls, arguments, wanted) = split_line(rows.unwrap_or(line));
         for call in calls.split('|') {
@@ -72,7 +66,7 @@ impl<'a> Tally<'a> {
     fn try_call(
         &mut self,
         rt: &impl Print,
-        call: &'a str,
+        call: &str,
         arguments: &str,
         wanted: &str,
         is_wrong: bool,
@@ -81,10 +75,7 @@ impl<'a> Tally<'a> {
             let row = Row::new(call, argument, wanted, &mut self.room)?;
             let gap = if argument.is_empty() { "" } else { " " };
             match (row.holds(), is_wrong) {
-                (true, false) => {
-                    let count = self.counts.entry(call)?.or_insert(0);
-                    *count = count.saturating_add(1);
-                }
+                (true, false) => self.holds = self.holds.saturating_add(1),
                 (false, true) => {
                     println!(rt; "wrong: {call}{gap}{argument} = {wanted}; the result is {row}")?;
                     self.found = self.found.saturating_add(1);
