@@ -1,5 +1,5 @@
 -- The bytes of an error: numbers of two digits, what fits the layout, and that their range lies in the text, between characters.
-use Rattle.std.proofs.Common.{◌≡◌, ℕ, zero, suc, ◌+◌, ◌-◌, ◌*◌, ◌<◌, ◌≤◌, List, [], ◌∷◌, length, get_or, drop, add-one, arith, rules}
+use Rattle.std.proofs.Common.{◌≡◌, ℕ, zero, suc, ◌+◌, ◌-◌, ◌*◌, ◌<◌, ◌≤◌, List, ◌∷◌, length, get_or, drop, add-one, arith, rules}
 use Rattle.std.specs.Prelude.{⊤, true, Bool, slice_index}
 use Rattle.std.specs.Char.{is_ascii_digit}
 use Rattle.std.specs.Bool.{Decides}
@@ -23,9 +23,7 @@ use Rattle.humantime_std.specs.Located.{IsRangeIn, char_end, fit_len, fits, frac
 pub number_of_pair : (b : List ℕ) (at : ℕ) → at + 2 ≤ length b → has_two b at ≡ true
     → (48 ≤ slice_index b at) × (slice_index b at ≤ 57) × (48 ≤ slice_index b (at + 1)) × (slice_index b (at + 1) ≤ 57)
     × (number_between b at (at + 2) ≡ (slice_index b at - 48) * 10 + (slice_index b (at + 1) - 48))
-number_of_pair b at long digits =
-    let bytes = has_two_from_test b at digits in
-    (bytes.0.0, bytes.0.1, bytes.1.0, bytes.1.1, number_of_two b at long digits)
+number_of_pair b at long digits = grind (arith, (has_two_from_test b at digits), (number_of_two b at long digits))
 
 -- The year is that of two pairs.
 pub year_of_pairs : (b : List ℕ) → 19 ≤ length b → has_two b 0 ≡ true → has_two b 2 ≡ true → number_between b 0 4 ≡ number_between b 0 2 * 100 + number_between b 2 4
@@ -82,26 +80,21 @@ fraction_ascii : (b : List ℕ) → 19 ≤ length b → get_or b 18 0 < 128
 unfolding fraction_end
 fraction_ascii b long seconds =
     let n : ℕ = prefix_len is_ascii_digit (drop 20 b) in
-    let few : n ≤ length (drop 20 b) = prefix_len-le-length is_ascii_digit (drop 20 b) in
-    let size : length (drop 20 b) ≡ length b - 20 = length-drop 20 b in
-    let digit : 0 < n → is_ascii_digit (get_or (drop 20 b) (n - 1) 0) ≡ true = λ some. prefix_len_passes is_ascii_digit (drop 20 b) (n - 1) 0 (omega arith) in
-    let there : get_or (drop 20 b) (n - 1) 0 ≡ get_or b (20 + (n - 1)) 0 = get_or-drop 20 b (n - 1) 0 in
-    grind (arith, nat_tests, (get_or_past b 19 0))
+    let few = prefix_len-le-length is_ascii_digit (drop 20 b) in
+    let digit = prefix_len_passes is_ascii_digit (drop 20 b) (n - 1) 0 in
+    grind (arith, nat_tests, (few), (digit), (length-drop 20 b), (get_or-drop 20 b (n - 1) 0), (get_or_past b 19 0))
 
 -- A zone ends with an ASCII byte.
 zone_ascii : (rest : List ℕ) → (zone_len rest ≤ length rest) × (0 < zone_len rest → get_or rest (zone_len rest - 1) 0 < 128)
 unfolding zone_len
-zone_ascii [] = (omega arith, λ some. absurd (omega (arith, some)))
 zone_ascii (c0 ∷ c1 ∷ c2 ∷ c3 ∷ c4 ∷ c5 ∷ rest) = grind (arith, nat_tests)
-zone_ascii (c ∷ rest) = grind (arith, nat_tests)
+zone_ascii rest = grind (arith, nat_tests)
 
 pub timestamp_inside : (b : List ℕ) → IsUtf8 b → 19 ≤ length b → get_or b 18 0 < 128 → IsRangeIn b (timestamp_len b) (length b)
 timestamp_inside b utf8 long seconds =
     let from : ℕ = fraction_end b in
     let n : ℕ = zone_len (drop from b) in
-    let some : 0 < n → from + n - 1 ≡ from + (n - 1) = λ more. omega arith in
-    let none : n ≡ 0 → from + n - 1 ≡ from - 1 = λ no. omega arith in
-    grind (arith, (fraction_ascii b long seconds), (zone_ascii (drop from b)), (length-drop from b), (get_or-drop from b (n - 1) 0), (IsCharBoundary-end b), (after_ascii b (from + n) utf8), (some), (none))
+    grind (arith, (fraction_ascii b long seconds), (zone_ascii (drop from b)), (length-drop from b), (get_or-drop from b (n - 1) 0), (IsCharBoundary-end b), (after_ascii b (from + n) utf8))
 
 -- A byte inside a character continues it.
 continues : (b : List ℕ) (i : ℕ) → i < length b → Decides (is_in_range 128 191 (get_or b i 0)) (¬ (IsCharBoundary b i))

@@ -1,18 +1,16 @@
 -- The next run of a job.
-use Rattle.std.proofs.Common.{◌≡◌, ◌↔◌, ℕ, ◌+◌, ◌-◌, ◌*◌, ◌/◌, ◌%◌, ◌<◌, ◌≤◌, ℤ, pos, ◌+ℤ◌, ◌≤ℤ◌, ◌<ℤ◌, Option, None, Some, IsNone, IfSome, SomeIff, arith, ap, subst, sym, ◌∙◌, inl, inr, rules}
+use Rattle.std.proofs.Common.{◌≡◌, ◌↔◌, ℕ, ◌+◌, ◌-◌, ◌*◌, ◌/◌, ◌%◌, ◌<◌, ◌≤◌, ℤ, pos, ◌+ℤ◌, ◌≤ℤ◌, ◌<ℤ◌, Option, None, Some, IsNone, IfSome, SomeIff, arith, subst, sym, rules}
 use Rattle.std.proofs.Math.Nat.{add-mod-mod, mod-add-mod, mod_self}
 use Rattle.std.proofs.lemmas.Bool.{cases_lt}
 use Rattle.std.proofs.lemmas.Int.{ints}
-use Rattle.std.proofs.lemmas.Nat.{div-add-mod', mul-le, row_fits}
+use Rattle.std.proofs.lemmas.Nat.{div-add-mod', mul-le, row_fits, rows}
 use Rattle.humantime.specs.Prelude.{moment_end}
 use Rattle.humantime_std.specs.Schedule.{IsDue, IsNextRun}
 
 -- A gap and what it lacks of whole periods are whole periods.
 pub rest_of_wait : (gap every : ℕ) → 0 < every → (gap + (every - gap % every) % every) % every ≡ 0
 rest_of_wait gap every some =
-    let lack : ℕ = every - gap % every in
-    let sum : gap % every + lack ≡ every = omega arith in
-    add-mod-mod gap lack every ∙ sym (mod-add-mod gap every lack) ∙ ap (λ n. n % every) sum ∙ mod_self every
+    grind (arith, (add-mod-mod gap (every - gap % every) every), (mod-add-mod gap every (every - gap % every)), (mod_self every))
 
 -- The first run is the next one if `now` is not after the last run.
 pub first_run : (last now : ℤ) (every : ℕ) → now ≤ℤ last → IsNextRun last every now (last +ℤ pos every)
@@ -27,16 +25,9 @@ pub run_after_wait : (last now : ℤ) (gap every wait : ℕ) → now ≡ last +�
 run_after_wait last now gap every wait is some short whole =
     let k : ℕ = (gap + wait) / every in
     let length : k * every ≡ gap + wait = omega (arith, div-add-mod' (gap + wait) every) in
-    let later : 1 ≤ k = elim (cases_lt 0 k) [
-      | inl fine ↦ fine
-      | inr none ↦ absurd (omega (arith, mul-le k every 0 every none (omega arith)))
-    ] in
-    let least : (j : ℕ) → gap ≤ j * every → k * every ≤ j * every = λ j reached. elim (cases_lt j k) [
-      | inl fewer ↦ absurd (omega (arith, row_fits j every k every fewer (omega arith)))
-      | inr fine ↦ mul-le k every j every fine (omega arith)
-    ] in
+    let least : (j : ℕ) → gap ≤ j * every → k * every ≤ j * every = λ j reached. grind (arith, (cases_lt j k), (row_fits j every k every), (mul-le k every j every)) in
     record {
-      due = record { periods = k; later = later; at = omega (arith, ints); reached = omega (arith, ints) };
+      due = record { periods = k; later = grind (arith, rows); at = omega (arith, ints); reached = omega (arith, ints) };
       first = λ u due. omega (arith, ints, least due.periods (omega (arith, ints)));
     }
 

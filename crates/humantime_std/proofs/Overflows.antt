@@ -11,7 +11,7 @@ use Rattle.std.proofs.lemmas.Grind.{common_steps}
 use Rattle.std.proofs.Math.Seq.{take-suc}
 use Rattle.std.proofs.lemmas.List.{map-append}
 use Rattle.std.proofs.lemmas.Option.{gets}
-use Rattle.std.proofs.lemmas.Str.{IsCharBoundary-at_seam, IsCharBoundary-end, IsUtf8-take, IsUtf8-drop, chars_from_encodes, encodes-append, encodes-chars, length-le-encodes, scalars-chars}
+use Rattle.std.proofs.lemmas.Str.{IsCharBoundary-at_seam, IsUtf8-take, IsUtf8-drop, chars_from_encodes, encodes-append, encodes-chars, length-le-encodes, scalars-chars}
 use Rattle.humantime.specs.Characters.{take_while, is_whitespace, is_numeric, is_point, drop_while, offset_of}
 use Rattle.humantime.specs.Durations.{SpelledSpan, Spells, SpellsAll, Reads, SumOf, WithinLimits, too_long, value}
 use Rattle.humantime.specs.DurationErrors.{BeginsSpan, Fault, HasFault, IsRangeIn, NumberOverflow, Split, after_number, after_word, span_of, word_of}
@@ -26,7 +26,6 @@ use Rattle.humantime.proofs.Outcomes.{accepted_spans, items_decide_fault, items_
 use Rattle.humantime.proofs.Characters.{begins-drop_while, drop_while_shorter, take_while-drop_while, take_while-only}
 use Rattle.humantime.proofs.TextWalks.{Steps, by_walk, items_found_at}
 use Rattle.humantime.proofs.Spellings.{is_fine, next_of, next_smaller, point_and_digits, spells_each-append, written_here}
-use Rattle.humantime.proofs.Sums.{within_tells}
 use Rattle.humantime.proofs.Items.{one_span_view}
 use Rattle.humantime.proofs.Slices.{next_bytes, start_trimmed}
 use Rattle.humantime_std.specs.Located.{Fit, OverflowsAt, rest_at, span_at, start_at}
@@ -44,7 +43,7 @@ cut_at bs front rest utf8 whole =
     let parts = scalars_parts front rest (ap scalars (sym whole) ∙ scalars-chars bs utf8) in
     let bytes : bs ≡ encode_utf8_all front ++ encode_utf8_all rest = sym (encodes-chars bs utf8) ∙ ap encode_utf8_all whole ∙ encodes-append front rest in
     let at : offset_of (chars bs) rest ≡ length (encode_utf8_all front) = rw (whole, encodes-append, length-append) (omega arith) in
-    let seam : IsCharBoundary bs (length (encode_utf8_all front)) = IsCharBoundary-at_seam bs (encode_utf8_all front) (encode_utf8_all rest) bytes (rest, (parts.1, refl)) in
+    let seam = IsCharBoundary-at_seam bs (encode_utf8_all front) (encode_utf8_all rest) bytes (rest, (parts.1, refl)) in
     rw at (
       seam,
       sym (chars_from_encodes front _ (IsUtf8-take bs _ utf8 seam) (grind (arith, common_steps))),
@@ -55,17 +54,12 @@ cut_at bs front rest utf8 whole =
 pub trimmed_at : (bs tail t rest : List ℕ) → IsUtf8 bs → IsUtf8 t → t ≡ trim_start tail → chars tail ≡ rest
     → length bs - length t ≡ offset_of (chars bs) (drop_while is_whitespace rest)
 trimmed_at bs tail t rest utf8 other is same =
-    let left : chars t ≡ drop_while is_whitespace rest = start_trimmed tail t other is ∙ ap (drop_while is_whitespace) same in
-    let whole = ap length (encodes-chars bs utf8) in
-    let bytes = ap length (encodes-chars t other) in
-    rw (← left) (omega (arith, whole, bytes))
+    grind (arith, (start_trimmed tail t other is), (encodes-chars bs utf8), (encodes-chars t other))
 
 -- ---- The spans of a text
 
 ok_at : (xs : List SpanView) (stop : Option Fault) (k : ℕ) → option_and_then result_ok (slice_get (items_of xs stop) k) ≡ slice_get xs k
-ok_at [] None k = refl
-ok_at [] (Some e) zero = refl
-ok_at [] (Some e) (suc k) = refl
+ok_at [] stop k = grind (arith, common_steps, gets)
 ok_at (x ∷ xs) stop zero = refl
 ok_at (x ∷ xs) stop (suc k) = ok_at xs stop k
 
@@ -103,8 +97,7 @@ walked text =
 -- The text up to a rest is the spans before it.
 split_on : (text front rest : List ℕ) (spans : List SpelledSpan) (rs : List (List ℕ)) (end : List ℕ) (k : ℕ) → Split text front spans rest → Follows rest rs end
     → (before : List ℕ) × Split text before (spans ++ map span_of (take k rs)) (get_or rs k end)
-split_on text front rest spans [] end zero h f = (front, rw (append-nil spans, ← f) h)
-split_on text front rest spans [] end (suc k) h f = (front, rw (append-nil spans, ← f) h)
+split_on text front rest spans [] end k h f = (front, grind (arith, common_steps, append-nil))
 split_on text front rest spans (r ∷ rs) end zero h f = (front, rw (append-nil spans, ← f.0) h)
 split_on text front rest spans (r ∷ rs) end (suc k) h f =
     let one = read_one text front r spans (rw (f.0) at h) f.1 in
@@ -144,9 +137,6 @@ too_many bs utf8 fit =
     let few = few_on _ _ _ (walked (chars bs)) in
     absurd (omega (arith, few, fit.begins, drop_while_shorter is_whitespace (chars bs), length-le-encodes (chars bs), ap length (encodes-chars bs utf8)))
 
-pub none_fits : (text : List ℕ) → Fit text 0
-none_fits text = record { begins = omega arith; within = (within_tells [] tt).0 refl }
-
 -- ---- The ends of spans
 
 -- A span that is found is that at the start of the rest before it.
@@ -163,9 +153,6 @@ word_ends rest = (take_while is_numeric rest ++ (point_and_digits (after_number 
 
 pub start_boundary : (bs : List ℕ) (k : ℕ) → IsUtf8 bs → IsCharBoundary bs (start_at k (chars bs))
 start_boundary bs k utf8 = let r = split_at (chars bs) k in (cut_at bs r.0 (rest_at k (chars bs)) utf8 r.1.whole).0
-
-pub end_inside : (bs : List ℕ) (k : ℕ) → IsUtf8 bs → IsRangeIn bs (start_at k (chars bs)) (length bs)
-end_inside bs k utf8 = let at = start_boundary bs k utf8 in (at.0, at, IsCharBoundary-end bs)
 
 -- A span that is found lies between characters, and what follows it is what follows its word.
 pub span_ends : (bs : List ℕ) (k : ℕ) (o : Option Span) (s : Span) → IsUtf8 bs → option_map span_view o ≡ span_at k (chars bs) → o ≡ Some s
