@@ -13,13 +13,8 @@ struct Stopped {
     slept: Cell<Duration>,
 }
 
-impl Stopped {
-    fn at(secs: u64, nanos: u32) -> Stopped {
-        Stopped {
-            reading: Duration::new(secs, nanos),
-            slept: Cell::new(Duration::ZERO),
-        }
-    }
+fn stopped_at(secs: u64, nanos: u32) -> Stopped {
+    Stopped { reading: Duration::new(secs, nanos), slept: Cell::new(Duration::ZERO) }
 }
 
 impl Clock for Stopped {
@@ -39,15 +34,15 @@ impl Clock for Stopped {
 #[test]
 fn now_reads_the_clock(rt: HostRuntime) {
     for (secs, nanos) in [(0, 0), (1_518_568_087, 133_999_999), (i64::MAX, 999_999_999)] {
-        let time = now(&Stopped::at(secs.unsigned_abs(), nanos)).expect(&rt, "no time");
+        let time = now(&stopped_at(secs.unsigned_abs(), nanos)).expect(&rt, "no time");
         assert_eq!(rt; Some(time), SystemTime::from_parts(secs, nanos));
     }
-    assert!(rt; now(&Stopped::at(1 << 63, 0)).is_err());
+    assert!(rt; now(&stopped_at(1 << 63, 0)).is_err());
 }
 
 #[test]
 fn the_clock_sleeps(rt: HostRuntime) {
-    let clock = Stopped::at(7, 0);
+    let clock = stopped_at(7, 0);
     sleep(&clock, StdDuration::new(90, 5));
     assert_eq!(rt; clock.slept.get(), Duration::new(90, 5));
     sleep(&clock, StdDuration::MAX);
@@ -56,10 +51,10 @@ fn the_clock_sleeps(rt: HostRuntime) {
 
 #[test]
 fn elapsed_reads_the_clock(rt: HostRuntime) {
-    let start = Instant::now(&Stopped::at(7, 999_999_999)).expect(&rt, "no time");
-    let later = elapsed(&Stopped::at(9, 4), start).expect(&rt, "no time");
+    let start = Instant::now(&stopped_at(7, 999_999_999)).expect(&rt, "no time");
+    let later = elapsed(&stopped_at(9, 4), start).expect(&rt, "no time");
     assert_eq!(rt; later, StdDuration::new(1, 5));
-    let earlier = elapsed(&Stopped::at(7, 0), start).expect(&rt, "no time");
+    let earlier = elapsed(&stopped_at(7, 0), start).expect(&rt, "no time");
     assert_eq!(rt; earlier, StdDuration::ZERO);
-    assert!(rt; elapsed(&Stopped::at(1 << 63, 0), start).is_err());
+    assert!(rt; elapsed(&stopped_at(1 << 63, 0), start).is_err());
 }
