@@ -27,8 +27,8 @@ use toml_parser::{ParseError, quoted, starts_string};
 ///   the start of the document.
 ///
 /// Returns [`SettingsError::Whole`], with the keys in the message, if the position is not known: of an item of an array that is no variant
-/// of an untagged enum, and where the same values are no such settings in JSON, which has no empty table for a variant without data, no
-/// number above the greatest `f32`, and at most 127 objects and arrays in one another.
+/// of an untagged enum, and where the same values are no such settings in JSON, which has no empty table for a variant without data, and at
+/// most 127 objects and arrays in one another.
 ///
 /// Returns [`SettingsError::OutOfMemory`] if an allocation fails.
 ///
@@ -113,29 +113,22 @@ fn located<T: DeserializeOwned>(
     };
     let (whole, said) = (error.to_string(alloc)?, error.message());
     // The fault of a value has no span: `whole` ends with a line "in `KEY.KEY`", unless there are no keys.
-    let keys = whole.rsplit_once("\nin `").map(|(_, keys)| keys);
-    if keys.is_none() && whole.starts_with("TOML parse error") {
-        let fault = Fault::at(span.start, String::from_str(alloc, said)?);
-        return Ok(SettingsError::At(marked_at(alloc, text, fault)?));
-    }
-    let keys = keys.unwrap_or("");
-    let keys = keys.strip_suffix("`\n").unwrap_or(keys);
-    match fault_of::<T>(alloc, text, said, keys) {
+    let front = whole.strip_suffix("`\n").unwrap_or("");
+    let keys = front.rsplit_once("\nin `").map_or("", |(_, keys)| keys);
+    let fault = if keys.is_empty() && whole.starts_with("TOML parse error") {
+        Ok(Some(Fault::at(span.start, String::from_str(alloc, said)?)))
+    } else {
+        fault_of::<T>(alloc, text, said, keys)
+    };
+    match fault {
         Ok(Some(fault)) => Ok(SettingsError::At(marked_at(alloc, text, fault)?)),
         Err(ParseError::OutOfMemory) => Err(AllocError),
         Ok(None) | Err(ParseError::At(..)) => {
-            let message = with_keys(alloc, said, keys)?;
+            let message = whole.trim_end_matches('\n');
+            let message = message.replace(alloc, "\nin `", " in `")?;
             Ok(SettingsError::Whole(message))
         }
     }
-}
-
-/// Returns a message with these keys.
-fn with_keys(alloc: Global, said: &str, keys: &str) -> Result<String, AllocError> {
-    if keys.is_empty() {
-        return String::from_str(alloc, said);
-    }
-    format!(in alloc; "{said} in `{keys}`")
 }
 
 /// Returns the fault of a document with the error `said` below these keys, if its place is known: the same values in JSON have an error at
@@ -152,8 +145,13 @@ fn fault_of<T: DeserializeOwned>(
         Err(error) if error.is_memory() => return Err(ParseError::OutOfMemory),
         Err(error) => error,
     };
+    let at = offset_of(&json, &error);
+    if said == "invalid value" && matches!(json.get(at..at.saturating_add(2)), Some("{}" | "[]")) {
+        // TOML has these for a variant without data.
+        return Ok(None);
+    }
     let mut scratch = Scratch::new(alloc);
-    let (mut path, token) = path_to(alloc, &json, offset_of(&json, &error), &mut scratch)?;
+    let (mut path, token) = path_to(alloc, &json, at, &mut scratch)?;
     if said == "invalid length" && !matches!(token, Token::EndArray) {
         // It is the array that has an item too many.
         path.pop();
@@ -170,26 +168,27 @@ fn fault_of<T: DeserializeOwned>(
     Ok(Some(fault_at(alloc, text, said, place, is_key)?))
 }
 
-/// Returns the values of a document in JSON, with another number in place of each `inf` and `nan`, which JSON does not have.
+/// Returns the values of a document in JSON, with another number in place of `inf`, `nan` and any that can be too large for JSON.
 fn as_json(alloc: Global, text: &str) -> Result<String, AllocError> {
     let table = toml::table_from_str(alloc, text).map_err(|_| AllocError)?;
     let json = serde_json::to_string(alloc, &table).map_err(|_| AllocError)?;
     let mut scratch = Scratch::new(alloc);
     let mut reader = Reader::new(&json, &mut scratch)?;
-    let (mut finite, mut copied) = (String::new(alloc), 0);
+    let (mut copy, mut copied) = (String::new(alloc), 0);
     for _ in 0..json.len() {
         let at = reader.offset();
-        let Some(token) = reader.next() else {
-            break;
+        let len = match reader.next() {
+            None => break,
+            Some(Token::Null) => "null".len(),
+            Some(Token::Number(number)) if number.contains('e') => number.len(),
+            Some(_) => continue,
         };
-        if matches!(token, Token::Null) {
-            finite.push_str(json.get(copied..at).unwrap_or(""))?;
-            finite.push_str("0.5")?;
-            copied = at.saturating_add("null".len());
-        }
+        copy.push_str(json.get(copied..at).unwrap_or(""))?;
+        copy.push_str("0.5")?;
+        copied = at.saturating_add(len);
     }
-    finite.push_str(json.get(copied..).unwrap_or(""))?;
-    Ok(finite)
+    copy.push_str(json.get(copied..).unwrap_or(""))?;
+    Ok(copy)
 }
 
 /// Returns how many steps of the path to a token lead to what has the error `said`, or `None` if these keys do not tell.
@@ -240,18 +239,17 @@ fn fault_at(
     is_key: bool,
 ) -> Result<Fault, ParseError> {
     let offset_of = |rest: &str| text.len().saturating_sub(rest.len());
-    let string = if is_key { place.key } else { place.value };
-    if let Some(fault) = fault_in_front(alloc, said, string)? {
-        return Ok(fault.after(offset_of(string)));
-    }
-    let message = String::from_str(alloc, said)?;
-    let start = if is_key {
-        // A header begins before its key.
-        offset_of(place.key).min(offset_of(place.value))
+    let (key, value) = (offset_of(place.key), offset_of(place.value));
+    // A header begins before its key.
+    let (string, start) = if is_key {
+        (place.key, key.min(value))
     } else {
-        offset_of(place.value)
+        (place.value, value)
     };
-    Ok(Fault::at(start, message))
+    match fault_in_front(alloc, said, string)? {
+        Some(fault) => Ok(fault.after(offset_of(string))),
+        None => Ok(Fault::at(start, String::from_str(alloc, said)?)),
+    }
 }
 
 /// Returns the fault of the string or the bare key at the front, if it has the error `said` of a duration or a timestamp.

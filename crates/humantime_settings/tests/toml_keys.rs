@@ -50,6 +50,7 @@ struct Whole {
     modes: Option<Vec<Mode>>,
     wait: Option<Wait>,
     pair: Option<(u32, u32)>,
+    rates: Option<Vec<f32>>,
     either: Option<Either>,
     eithers: Option<Vec<Either>>,
 }
@@ -113,6 +114,9 @@ const KEYS: &[Case<'static>] = &[
     ("either.x = 1\neither.y = 2", 1, 1, "", "data did not match any variant of untagged enum"),
     ("eithers = [1, 'x', 2]", 0, 0, "", "data did not match any variant of untagged enum in `eithers`"),
     ("mode = { Fast = {} }\nwait = 5", 0, 0, "", "expected a duration in quotes in `wait`"),
+    ("modes = [{ Fast = {} }, { Fast = 5 }]", 0, 0, "", "invalid value in `modes.Fast`"),
+    ("modes = ['Fast', { Fast = 5 }]", 1, 27, "", "invalid value"),
+    ("rates = [1e300, 1, -1e-300, inf, '1']", 1, 34, "", "invalid type: string \"1\", expected f32"),
     ("[[eithers]]\nx = 1\n[[eithers]]\nx = 1\n", 0, 0, "", "data did not match any variant of untagged enum in `eithers`"),
 ];
 
