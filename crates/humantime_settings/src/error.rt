@@ -162,6 +162,7 @@ impl Marked {
     /// let read = from_json::<AsText<StdDuration>>(rt.alloc(), "\"5µs x\"");
     /// assert!(rt; matches!(&read, Err(SettingsError::At(fault)) if fault.column() == 6));
     /// ```
+    #[tactic(auto, using(std::proofs::lemmas::Str::chars_from_encodes))]
     pub fn column(&self) -> usize
         ensures { result ≡ length (chars (string_bytes self.now.before)) + 1 }
     {
