@@ -1,7 +1,7 @@
 -- The items of a text, as `spans` returns them, and the slices of the text between them.
 use Rattle.std.proofs.lemmas.Bool.Decides.{nat_tests}
 use Rattle.humantime.proofs.Offsets.{no_bytes, some_chars}
-use Rattle.std.proofs.Common.{◌≡◌, ◌≢◌, IsUtf8, chars, arith, ℕ, Bool, true, List, [], ◌∷◌, map, Option, Result, Err, refl, ◌≤◌, ◌<◌, false, None, Ok, length, length-append, ◌++◌, Some, sym, ap, append_assoc, append-nil}
+use Rattle.std.proofs.Common.{if◌then◌else◌, ◌≡◌, ◌≢◌, IsUtf8, chars, arith, ℕ, Bool, true, List, [], ◌∷◌, map, Option, Result, Err, refl, ◌≤◌, ◌<◌, false, None, Ok, length, length-append, ◌++◌, Some, sym, ap, append_assoc, append-nil}
 use Rattle.std.proofs.lemmas.Str.{encodes-chars, encode_ascii}
 use Rattle.std.proofs.lemmas.Grind.{common_steps}
 use Rattle.std.specs.Prelude.{flat_map, is_ok, option_to_list}
@@ -11,14 +11,14 @@ use Rattle.std.proofs.lemmas.List.{append_cancel_right}
 use Rattle.std.proofs.lemmas.List.Folds.{list_all-append}
 use Rattle.std.proofs.lemmas.Bool.{and_parts}
 use Rattle.humantime.specs.Characters.{drop_while, take_while, is_whitespace, bare_zero, byte_length, is_point}
-use Rattle.humantime.specs.DurationErrors.{span_of, Fault, after_word}
-use Rattle.humantime.specs.Walks.{Walk, walk_of, sum_spans, fault_at}
+use Rattle.humantime.specs.DurationErrors.{span_of, Empty, Fault, after_word}
+use Rattle.humantime.specs.Walks.{Walk, walk, walk_of, items, sum_spans, fault_at}
 use Rattle.humantime.specs.DurationResults.{duration_answer, view_at, item_views, span_in, left_at}
 use Rattle.humantime.specs.Items.{SpanView, AreSpanViews, items_of, AreItems, IsDigitSlice, IsFractionView, IsSpanView}
 use Rattle.humantime.specs.StepsOfCalls.{after_space, read_span}
 use Rattle.humantime.specs.Durations.{SpelledSpan, HasOnly}
 use Rattle.humantime.specs.Laws.{IsTiled, is_gap, slices_of}
-use Rattle.humantime.proofs.TextWalks.{items_found_at, Steps, by_walk, walk-right, walk-wrong}
+use Rattle.humantime.proofs.TextWalks.{items_found_at, Steps, by_walk, walk-go, walk-stop}
 use Rattle.humantime.proofs.Outcomes.{items_walked, duration_answer-items}
 use Rattle.humantime.proofs.Spellings.{is_fine, next_of, each-append}
 use Rattle.humantime.proofs.Slices.{one_view_each, is_span_view, spelled_at, next_bytes}
@@ -33,6 +33,7 @@ spans_read text (rest ∷ starts) stop = grind (arith, spelled_at, (spans_read t
 
 -- Unless the text is `0`, the sum of its items is its outcome.
 sum_views_outcome : (text : List ℕ) → text ≢ bare_zero → sum_spans 0 (map span_in (item_views text)) ≡ duration_answer text
+unfolding items left_at
 sum_views_outcome text some = grind (arith, spans_read, (duration_answer-items text some))
 
 -- The same for the bytes of the text, since a text whose one character is `0` is that byte.
@@ -40,22 +41,23 @@ pub sum_answers : (bs : List ℕ) → IsUtf8 bs → bs ≢ bare_zero → sum_spa
 sum_answers bs u n = sum_views_outcome (chars bs) (λ e. n (grind (arith, (encodes-chars bs u), encode_ascii)))
 
 -- Each span of a walk has its view, up to the rest that the walk leaves.
-abbrev Lends : List ℕ → Bool → List ℕ → Walk → Type 0
-Lends text first rest w = AreSpanViews text rest (map span_of w.starts) (map (view_at text) w.starts) w.rest
+abbrev Lends : List ℕ → List ℕ → Walk → Type 0
+Lends text rest w = AreSpanViews text rest (map span_of w.starts) (map (view_at text) w.starts) w.rest
 
 lends : (text : List ℕ) → Steps text (Lends text)
 lends text = grind (arith, next_of, is_span_view, is_fine)
 
 pub are_items : (text : List ℕ) → AreItems text (item_views text)
+unfolding items left_at
 are_items text =
     let i = items_found_at text in
     record {
-      spans = map span_of (walk_of text).starts;
-      stop = (walk_of text).stop;
+      spans = (items text).0;
+      stop = (items text).1;
       slices = map (view_at text) (walk_of text).starts;
       items = i.0;
       are = refl;
-      each = rw i.1 (by_walk text (Lends text) (lends text) true (drop_while is_whitespace text));
+      each = rw i.1 (by_walk text (Lends text) (lends text) (drop_while is_whitespace text));
     }
 
 pub one_span_view : (text : List ℕ) (others : List (Result SpanView Fault)) → AreItems text others → others ≡ item_views text
@@ -74,8 +76,13 @@ first_error_answers text listed others e a first some = grind (arith, (sum_views
 after_space_bytes : (cs : List ℕ) → byte_length (after_space cs) ≤ byte_length cs
 after_space_bytes cs = grind (arith, common_steps, length-append)
 
+pub step_ended : (first : Bool) (text : List ℕ) → left_at first text [] ≡ (if first then Err Empty ∷ [] else [])
+unfolding left_at walk
+step_ended first text = grind arith
+
 pub step_stopped : (first : Bool) (text rest : List ℕ) (f : Fault) → rest ≢ [] → Err f ≡ read_span text rest → left_at first text rest ≡ Err f ∷ []
-step_stopped first text rest f some e = grind (arith, common_steps, (walk-wrong first text rest f some))
+unfolding left_at
+step_stopped first text rest f some e = grind (arith, common_steps, (walk-stop text rest f))
 
 -- A span that was read has no fault.
 fine : (text rest next : List ℕ) (x : SpanView) → Ok (x, next) ≡ read_span text rest → (fault_at text rest ≡ None) × (x ≡ view_at text rest) × (next ≡ after_space (after_word rest))
@@ -83,10 +90,14 @@ fine text rest next x e = grind (arith, common_steps)
 
 pub step_shorter : (text rest next : List ℕ) (x : SpanView) → IsUtf8 rest → IsUtf8 next → Ok (x, chars next) ≡ read_span text (chars rest) → length next < length rest
 step_shorter text rest next x u v e =
-    grind (arith, (encodes-chars rest u), (encodes-chars next v), (fine text (chars rest) (chars next) x e), after_space_bytes, next_bytes)
+    grind (arith, (encodes-chars rest u), (encodes-chars next v), (is_fine text (chars rest)), (fine text (chars rest) (chars next) x e), after_space_bytes, next_bytes)
+
+pub left-go : (first : Bool) (text rest : List ℕ) → fault_at text rest ≡ None → left_at first text rest ≡ Ok (view_at text rest) ∷ left_at false text (next_of rest)
+unfolding left_at
+left-go first text rest h = grind (arith, common_steps, (walk-go text rest h))
 
 pub step_goes : (first : Bool) (text rest next : List ℕ) (x : SpanView) → Ok (x, next) ≡ read_span text rest → left_at first text rest ≡ Ok x ∷ left_at false text (drop_while is_whitespace next)
-step_goes first text rest next x e = grind (arith, (fine text rest next x e), (walk-right first text rest), common_steps)
+step_goes first text rest next x e = grind (arith, common_steps, (fine text rest next x e), (left-go first text rest))
 
 -- ==== The slices of the items of a text tile it up to where the spans stop.
 
@@ -143,4 +154,4 @@ pub text_tiled : (text : List ℕ) (items : List (Result SpanView Fault)) → Ar
 text_tiled text items are each = grind (arith, list_all-append, and_parts, append-nil, (front_tiled text items are))
 
 -- What `next` needs.
-pub ruleset next_item = (step_stopped, no_bytes, some_chars, common_steps, nat_tests)
+pub ruleset next_item = (step_ended, step_stopped, no_bytes, some_chars, common_steps, nat_tests)

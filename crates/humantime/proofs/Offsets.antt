@@ -1,7 +1,7 @@
 -- Offsets in a text, the characters at them, and the ends of a text.
 use Rattle.std.proofs.lemmas.Grind.{common_steps}
 use Rattle.std.proofs.Common.{◌≡◌, ◌<◌, ◌≤◌, ◌+◌, ℕ, List, [], ◌∷◌, ◌++◌, length, get_or, drop, refl, ap, sym, ◌∙◌, arith, length-drop, IsUtf8, IsCharBoundary, chars, encode_utf8, encode_utf8_all, Bool, true, false, ◌≢◌, ◌-◌, take, length-append, length-take}
-use Rattle.std.specs.Prelude.{◌==◌, ◌&&◌, ◌||◌, not, slice_range}
+use Rattle.std.specs.Prelude.{◌==◌, ◌&&◌, ◌||◌}
 use Rattle.std.specs.Char.{is_ascii_digit, len_utf8}
 use Rattle.std.proofs.Math.Utf8.{encode}
 use Rattle.std.proofs.lemmas.Bool.{cases_lt, ne_eqb}
@@ -11,7 +11,7 @@ use Rattle.std.proofs.lemmas.Str.{IsUtf8-drop, IsCharBoundary-past_char, drop_pa
 use Rattle.humantime.specs.DurationErrors.{IsCharStartIn, IsRangeIn, IsPartOf, may_follow_span}
 use Rattle.humantime.specs.Characters.{begins, drop_while, take_while, is_letter, is_whitespace, whitespace_chars, is_digit, byte_length, offset_of}
 use Rattle.humantime.specs.StepsOfCalls.{after_space}
-use Rattle.humantime.specs.StepsOfParts.{whitespace_len, IsTail, begins_with_nonletter}
+use Rattle.humantime.specs.StepsOfParts.{whitespace_len, IsTail}
 use Rattle.humantime.proofs.Characters.{letter_not_whitespace, whitespace_is_numeric, take_while-drop_while, low_whitespace, no_whitespace_between}
 
 -- ==== Offsets in a text, and the characters at them.
@@ -143,7 +143,7 @@ tail_range text a b t u =
     rw (sym (tail_offset text a t), sym (tail_offset text b v)) (omega (arith, u.shorter), tail_boundary text a t, tail_boundary text b v)
 
 -- The text between two rests is a slice of the text.
-pub tail_part : (text a b part : List ℕ) → IsTail text a → IsTail a b → part ≡ slice_range a 0 (length a - length b)
+pub tail_part : (text a b part : List ℕ) → IsTail text a → IsTail a b → a ≡ part ++ b
     → IsPartOf text part (offset_of (chars text) (chars a)) (offset_of (chars text) (chars b))
 tail_part text a b part t u e =
     (tail_range text a b t u, rw (sym (tail_offset text a t), sym (tail_offset text b (tail_tail text a b t u))) (grind (arith, common_steps)))
@@ -155,12 +155,6 @@ front_is p text at u place after =
     append_cancel_right _ _ (drop_while p (chars text))
     (grind (arith, after, (chars-append (take at text) (drop at text) (IsUtf8-take text at u place)), (take-append-drop at text), (take_while-drop_while p (chars text))))
 
--- The text before the rest, if the longest prefix that passes a test ends there.
-pub front_read : (p : ℕ → Bool) (text rest front : List ℕ) → IsTail text rest → chars rest ≡ drop_while p (chars text) → front ≡ slice_range text 0 (length text - length rest)
-    → chars front ≡ take_while p (chars text)
-front_read p text rest front t e f =
-    grind (arith, common_steps, t.ends, (front_is p text (length text - length rest) t.whole (tail_boundary text rest t)))
-
 -- A text without characters has no bytes, and one without bytes no characters.
 pub some_chars : (bs : List ℕ) → IsUtf8 bs → length bs ≢ 0 → chars bs ≢ []
 some_chars bs u n e = n (grind (arith, encodes-chars, ap byte_length e))
@@ -170,14 +164,6 @@ no_bytes bs h = grind (arith, common_steps, chars-nil)
 
 pub no_chars_at : (text : List ℕ) (at : ℕ) → length text ≤ at → chars (drop at text) ≡ []
 no_chars_at text at end = no_bytes (drop at text) (omega (arith, length-drop at text))
-
--- A text begins with a word if and only if its letters end after its start.
-pub word_begins : (text : List ℕ) (at : ℕ) → IsUtf8 text → IsCharBoundary text at → chars (drop at text) ≡ drop_while is_letter (chars text)
-    → begins_with_nonletter (chars text) ≡ (at == 0 && not (length text == 0))
-word_begins text at u place rest =
-    let letters = front_is is_letter text at u place rest in
-    let begins_is : begins_with_nonletter (chars text) ≡ (length (take_while is_letter (chars text)) == 0 && not (length (chars text) == 0)) = grind (arith, common_steps, nat_tests) in
-    grind (arith, common_steps, nat_tests, length-take, IsUtf8-take, some_chars, no_bytes, letters, begins_is)
 
 -- ==== What the functions that scan a text need.
 

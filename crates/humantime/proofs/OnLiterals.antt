@@ -5,8 +5,8 @@ use Rattle.std.specs.Str.{chars, is_utf8}
 use lib.Utf8.{encode}
 use Rattle.humantime.specs.Characters.{whitespace_chars, is_whitespace, is_digit, is_letter, is_point, without_trailing_zeros}
 use Rattle.humantime.specs.Durations.{scale_of_word}
-use Rattle.humantime.specs.Walks.{walk, add_all, add_span, sum_spans, stop_at}
-use Rattle.humantime.specs.DurationResults.{duration_text, duration_answer, canonical_answer}
+use Rattle.humantime.specs.Walks.{walk, items, add_all, add_span, sum_spans, fault_at}
+use Rattle.humantime.specs.DurationResults.{left_at, duration_text, duration_answer, canonical_answer}
 use Rattle.humantime.specs.Calendar.{days_of_years, days_of_months}
 use Rattle.humantime.specs.TimestampResults.{date_of, moment_text, weak_answer, strict_answer}
 use Rattle.humantime.specs.Timestamps.{fraction_nanos, zone_of, number_between, has_t_and_zone, has_separator, has_punctuation, has_two, has_digits, is_valid_date_time, has_point}
@@ -14,7 +14,7 @@ use Rattle.humantime.specs.Timestamps.{fraction_nanos, zone_of, number_between, 
 -- ==== The definitions that a proof unfolds to compute the result of parsing a literal, or the printed text of a value.
 
 unfoldable pub humantime_on_literals : ⊤
-unfolding duration_answer canonical_answer sum_spans walk stop_at add_span add_all is_whitespace whitespace_chars is_digit is_letter is_point without_trailing_zeros scale_of_word duration_text digits chars is_utf8 encode
+unfolding duration_answer canonical_answer sum_spans items left_at walk fault_at add_span add_all is_whitespace whitespace_chars is_digit is_letter is_point without_trailing_zeros scale_of_word duration_text digits chars is_utf8 encode
 humantime_on_literals = tt
 
 -- ==== The definitions that a proof unfolds to compute the result of parsing a literal timestamp, or the printed text of a moment.

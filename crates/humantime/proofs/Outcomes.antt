@@ -1,6 +1,6 @@
 -- A text of a duration has exactly one value or one error, which the reference computes.
 use Rattle.std.proofs.lemmas.Grind.{common_steps}
-use Rattle.std.proofs.Common.{◌≡◌, ◌≢◌, ◌⊎◌, ◌↔◌, ℕ, true, List, [], ◌∷◌, ◌++◌, Option, Some, None, Result, Ok, Err, refl, sym, ◌∙◌, inl, inr, arith, append_assoc, sum_by, IsPermutation}
+use Rattle.std.proofs.Common.{◌≡◌, ◌≢◌, ◌⊎◌, ◌↔◌, ℕ, List, [], ◌∷◌, ◌++◌, Option, Some, None, Result, Ok, Err, refl, sym, ◌∙◌, inl, inr, arith, append_assoc, sum_by, IsPermutation}
 use Rattle.std.specs.Prelude.{IfErr, chars, option_map, unwrap_or}
 use Rattle.std.specs.List.{AllByRecursion}
 use Rattle.std.specs.Str.{bytes_eq}
@@ -18,7 +18,7 @@ use Rattle.humantime.specs.DurationResults.{IsDurationAnswer, duration_answer}
 use Rattle.humantime.proofs.Sums.{spans_summed, within_from-front, within_tells, value-cons}
 use Rattle.humantime.proofs.Characters.{digit_is_numeric}
 use Rattle.humantime.proofs.Spellings.{fine_goes, each-append}
-use Rattle.humantime.proofs.TextWalks.{walk-right, too_large_found, first_after, front_walked, split_whole, not_zero}
+use Rattle.humantime.proofs.TextWalks.{walk-go, too_large_found, front_walked, split_whole, not_zero}
 pub use Rattle.humantime.proofs.TextWalks.{items_found, items_walked, one_reading}
 
 -- ==== The result of the reference is the value or the fault of the text, and the only one.
@@ -52,9 +52,10 @@ outcome_accepted text v (SumOf spans reads within sum) =
 
 -- If the span at the start of the rest breaks a limit, so do the items of the text.
 over_outcome : (text : List ℕ) (e : Fault) (h : HasFault text e) → BreaksLimit h.spans h.rest e → duration_answer text ≡ Err e
+unfolding items
 over_outcome text e h b =
     let walk = front_walked text h.front h.rest h.spans h.split h.within.formed (inr (inl (grind (arith, digit_is_numeric)))) in
-    let right = walk-right (first_after true h.spans) text h.rest (fine_goes text h.rest b.span) in
+    let right = walk-go text h.rest (fine_goes text h.rest b.span) in
     let here = span_of h.rest ∷ [] in
     let summed = outcome_summed text (items text).0 (items text).1 h.not_zero (items_found text) in
     grind (arith, walk, right, summed, (within_from-front 0 (h.spans ++ here)), within_tells, (append_assoc h.spans here), (each-append Formed h.spans here))

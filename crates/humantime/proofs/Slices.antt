@@ -46,9 +46,16 @@ pub digits_drop_while : (cs : List ℕ) → digits (drop_while is_whitespace cs)
 digits_drop_while [] = refl
 digits_drop_while (c ∷ cs) = grind (arith, (digits_drop_while cs), whitespace_not_digit)
 
+-- Trimming keeps the digits.
+pub digits_kept : (cs : List ℕ) → digits (drop_trailing_whitespace cs) ≡ digits cs
+digits_kept cs = digits_dropped cs (drop_trailing_whitespace cs) (dropped cs)
+
+pub digits_trimmed : (cs : List ℕ) → digits (trimmed cs) ≡ digits cs
+digits_trimmed cs = digits_kept (drop_while is_whitespace cs) ∙ digits_drop_while cs
+
 -- The slices represent the span that they are taken from.
 pub spelled_at : (text rest : List ℕ) → spelled (view_at text rest).number (view_at text rest).fraction (view_at text rest).unit ≡ span_of rest
-spelled_at text rest = grind (arith, common_steps, nat_tests, digits_drop_while, digits_dropped, dropped)
+spelled_at text rest = grind (arith, common_steps, digits_kept, digits_trimmed)
 
 ends_digit : (x : ℕ) (xs : List ℕ) → HasOnly is_numeric (x ∷ xs) → ends is_whitespace (x ∷ xs) ≡ false → ends is_digit (x ∷ xs) ≡ true
 ends_digit x [] o e = digit_from_numeric x o.0 e
@@ -174,3 +181,6 @@ is_span_view text rest f =
       end = ap (offset_of text) (append_cancel_left (word_of rest) (after_word rest) after (take_while-drop_while is_letter (after_fraction rest) ∙ r.3));
       value = refl;
     }
+
+-- What adding a span needs.
+pub ruleset amounts = (digits_kept, digits_trimmed, common_steps)

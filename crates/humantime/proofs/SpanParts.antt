@@ -1,24 +1,18 @@
 -- The parts of a span as they are read: number, fraction, word and end.
 use Rattle.std.proofs.lemmas.Grind.{common_steps}
-use Rattle.std.proofs.Common.{◌≡◌, ◌≤◌, ◌<◌, ◌+◌, ◌-◌, ◌*◌, ◌%◌, ℕ, List, [], ◌∷◌, ◌++◌, arith, true, false, chars, drop, get_or, length, IsUtf8, IsCharBoundary, ◌≢◌, ◌^◌, sym, ap, ◌∙◌, length-append, Bool, Option, Some, None, Ok, Err, option_map, Bor, encode_utf8_all}
+use Rattle.std.proofs.Common.{◌≡◌, ◌≤◌, ◌<◌, ◌+◌, ◌-◌, ◌*◌, ◌%◌, ℕ, List, [], ◌∷◌, ◌++◌, arith, true, false, chars, drop, get_or, length, IsUtf8, IsCharBoundary, ◌≢◌, ◌^◌, sym, ap, ◌∙◌, length-append}
 use Rattle.std.specs.Char.{digit_value, is_ascii_digit}
 use Rattle.std.specs.Str.Parse.{digits_value_after}
-use Rattle.std.proofs.lemmas.Str.{digit_value_digit, IsCharBoundary-start}
+use Rattle.std.proofs.lemmas.Str.{digit_value_digit, encodes-chars, IsCharBoundary-start}
 use Rattle.std.proofs.lemmas.Bool.Decides.{nat_tests}
 use Rattle.std.proofs.lemmas.Bool.{ne_eqb}
 use Rattle.std.proofs.lemmas.Nat.{pow-add}
 use Rattle.std.proofs.Math.Nat.{one-le-pow, pow-le-pow_right, mul-le-mul_right}
-use Rattle.std.specs.Prelude.{◌==◌}
-use Rattle.std.specs.Str.{drop_trailing_whitespace}
-use Rattle.humantime.specs.Characters.{begins, decimal_value, drop_while, take_while, is_digit, is_numeric, is_letter, offset_of}
-use Rattle.humantime.specs.DurationErrors.{number_of, after_number, after_point, after_fraction, fraction_of, word_of, after_word, span_of, UnknownUnit, IsCharStartIn}
-use Rattle.humantime.specs.StepsOfParts.{whitespace_len, HasDigits, begins_with_nonletter, Counted, counted, numbers_in}
+use Rattle.humantime.specs.Characters.{begins, decimal_value, is_digit, is_numeric}
+use Rattle.humantime.specs.DurationErrors.{number_of, after_number, IsCharStartIn}
+use Rattle.humantime.specs.StepsOfParts.{whitespace_len, HasDigits}
 use Rattle.humantime.specs.declared.duration.digits.Fraction.{Fraction}
-use Rattle.humantime.specs.Durations.{is_some_and, too_long, Scale, scale_of_word}
-use Rattle.humantime.specs.DurationResults.{trimmed, view_at}
-use Rattle.humantime.specs.Walks.{stop_at}
-use Rattle.humantime.specs.StepsOfCalls.{HasRead, skip_word, skip_span_end, read_span}
-use Rattle.humantime.proofs.Offsets.{digit_at, whitespace_over, no_whitespace, ascii_at, no_bytes, tail_boundary, tail_tail}
+use Rattle.humantime.proofs.Offsets.{digit_at, whitespace_over, no_whitespace, ascii_at, no_bytes, tail_boundary, tail_place, tail_tail}
 use Rattle.humantime.proofs.Characters.{digit_is, digit_is_numeric, whitespace_is_numeric, whitespace_not_digit, wide_no_digit, digits_value-append, significant_shorter, significant_last, significant_zero, value_shifted, significant_long}
 
 -- ==== Parsing the digits at the start of a text, one by one.
@@ -98,39 +92,8 @@ fraction_extended f ds c p h is some few power =
       fits = rw power (omega (arith, sum, below, digit_range c is, pow-le-pow_right {n = 10} (omega arith) {i = 1} {j = k} (omega (arith, within))));
     }
 
--- ==== The parts of a span that were read, and the errors at its start.
-
--- A text that does not begin with a letter has no letters at its start.
-pub no_letters : (cs : List ℕ) → begins_with_nonletter cs ≡ true → drop_while is_letter cs ≡ cs
-no_letters cs other = grind (arith, common_steps, nat_tests)
-
--- The slices that were parsed are those of the view of the span.
-pub view_read : (text rest number word : List ℕ) (fraction : Option (Fraction × Bor (List ℕ))) (start end value : ℕ)
-    → number ≡ take_while is_numeric rest → option_map (λ f. chars f.1.now) fraction ≡ option_map (take_while is_numeric) (after_point (after_number rest))
-    → word ≡ word_of rest → start ≡ offset_of text rest → end ≡ offset_of text (after_word rest) → value ≡ decimal_value (number_of rest)
-    → record { number = drop_trailing_whitespace number; fraction = option_map (λ f. trimmed (chars f.1.now)) fraction; unit = word; start = start; end = end; value = value } ≡ view_at text rest
-view_read text rest number word fraction start end value n d w p q v = grind arith
-
-pub word_read : (word next : List ℕ) → Some next ≡ skip_word word → next ≡ drop_while is_letter word
-word_read word next w = grind (arith, common_steps)
-
--- Tests whether a fraction has no digits.
-abbrev pub is_bare : Option Counted → Bool
-is_bare fraction = is_some_and (λ x. x.2 == 0) fraction
-
-pub exit_unit : {rest after word : List ℕ} {value : ℕ} {fraction : Option (Fraction × Bor (List ℕ))} (text next end : List ℕ) → HasRead rest value after fraction word → Some next ≡ skip_word (chars word)
-    → scale_of_word (take_while is_letter (chars word)) ≡ None → is_bare (numbers_in fraction) ≡ false → Some end ≡ skip_span_end next
-    → Err (UnknownUnit (offset_of text (chars word)) (offset_of text next) (encode_utf8_all (take_while is_letter (chars word))) value) ≡ read_span text (chars rest)
-unfolding stop_at
-exit_unit text next end b w none bare e = grind (arith, common_steps)
-
-pub no_exit : (text rest word next end : List ℕ) (fraction : Option Counted) (scale : Scale) → begins is_digit rest ≡ true → too_long (span_of rest) ≡ false → fraction ≡ option_map counted (fraction_of rest)
-    → word ≡ after_fraction rest → Some next ≡ skip_word word → scale_of_word (take_while is_letter word) ≡ Some scale → is_bare fraction ≡ false → Some end ≡ skip_span_end next → Ok (view_at text rest, end) ≡ read_span text rest
-unfolding stop_at
-no_exit text rest word next end fraction scale d s f is w unit bare e = grind (arith, common_steps)
-
 -- What appending a digit to a fraction needs.
 pub ruleset fractions = (fewer, significant_long, significant_zero, digit_range, common_steps)
 
 -- What reading a span from its fraction on needs.
-pub ruleset spans = (tail_boundary, tail_tail, no_letters, nat_tests)
+pub ruleset spans = (tail_boundary, tail_place, tail_tail, encodes-chars, nat_tests)

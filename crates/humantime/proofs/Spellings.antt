@@ -1,15 +1,15 @@
 -- The span at the start of a text, how it is spelled, and the error that stops it.
-use Rattle.std.proofs.Common.{arith, ◌≡◌, ℕ, List, [], ◌∷◌, ◌++◌, sym, append_assoc, append-nil, subst, ◌≢◌, ◌⊎◌, ◌<◌, true, false, length, Option, Some, None, if◌then◌else◌}
+use Rattle.std.proofs.Common.{◌==◌, arith, inl, ◌≡◌, ℕ, List, [], ◌∷◌, ◌++◌, sym, append_assoc, append-nil, subst, ◌≢◌, ◌⊎◌, ◌<◌, true, false, length, Option, Some, None, if◌then◌else◌}
 use Rattle.std.specs.List.{AllByRecursion}
 use Rattle.std.proofs.lemmas.Grind.{common_steps}
 use Rattle.std.proofs.lemmas.Bool.Decides.{nat_tests}
-use Rattle.std.specs.Prelude.{option_map, unwrap_or, not, IsSome}
+use Rattle.std.specs.Prelude.{option_map, unwrap_or, IsSome}
 use Rattle.std.specs.Bool.{Decides}
 use Rattle.humantime.specs.Characters.{is_whitespace, is_digit, is_letter, is_numeric, is_point, take_while, drop_while, begins, ends}
-use Rattle.humantime.specs.Durations.{SpelledSpan, HasOnly, Spells, SpellsEach, IsLetters, SpellsFraction, scale_of_word}
+use Rattle.humantime.specs.Durations.{is_some_and, SpelledSpan, HasOnly, Spells, SpellsEach, IsLetters, SpellsFraction, scale_of_word}
 use Rattle.humantime.specs.DurationErrors.{after_fraction, after_number, after_point, after_word, fraction_of, may_follow_span, number_of, span_of, Fault, BeginsSpan, IsStoppedWith, word_of}
-use Rattle.humantime.specs.Walks.{stop_at, fault_at}
-use Rattle.humantime.proofs.Characters.{letter_not_whitespace, point_not_numeric, take_while-append, drop_while-append, drop_while_shorter, begins-append, ends_only, ends_other, ends-append, take_while-drop_while, digit_is_numeric, take_while-only, begins_take_while}
+use Rattle.humantime.specs.Walks.{fault_at, may_be_word}
+use Rattle.humantime.proofs.Characters.{letter_not_whitespace, point_not_numeric, take_while-append, drop_while-append, drop_while_shorter, begins-append, ends_only, ends_other, ends-append, take_while-drop_while, digit_is_numeric, take_while-only, begins_take_while, begins-drop_while}
 
 -- ==== A spelling as a text of its own, and followed by more text.
 
@@ -86,9 +86,21 @@ next_smaller rest e = grind (arith, drop_while_shorter, (drop_while_shorter is_n
 
 -- ---- each test, and the condition of the table
 
--- The text begins with a character other than a letter.
-no_letter_tells : (cs : List ℕ) → Decides (begins (λ c. not (is_letter c)) cs) ((take_while is_letter cs ≡ []) × (drop_while is_letter cs ≢ []))
-no_letter_tells cs = grind (arith, common_steps)
+-- A fraction has no digits.
+no_digits : (fraction : Option (List ℕ)) → Decides (is_some_and (λ ds. length ds == 0) fraction) (fraction ≡ Some [])
+no_digits (Some (d ∷ ds)) = grind (arith, nat_tests)
+no_digits fraction = grind arith
+
+-- The text may begin a word.
+word_tells : (cs : List ℕ) → Decides (may_be_word cs) ((take_while is_letter cs ≢ []) ⊎ (drop_while is_letter cs ≡ []))
+word_tells cs = grind (arith, common_steps)
+
+-- Neither a digit nor whitespace follows the number and the fraction, so no span ends there without a word.
+no_word_ends : (rest : List ℕ) → word_of rest ≡ [] → after_word rest ≢ [] → may_follow_span (after_word rest) ≡ false
+no_word_ends rest = by (after_fraction rest) (grind (arith, begins-drop_while))
+  where
+    by : (cs : List ℕ) → begins is_numeric cs ≡ false → take_while is_letter cs ≡ [] → drop_while is_letter cs ≢ [] → may_follow_span (drop_while is_letter cs) ≡ false
+    by cs e none more = grind arith
 
 pub some_letters : (word : List ℕ) → IsSome (scale_of_word word) → word ≢ []
 unfolding scale_of_word
@@ -98,24 +110,27 @@ some_letters word h e = grind arith
 
 -- An error of the table is found by the tests.
 pub stops_at : (text front : List ℕ) (spans : List SpelledSpan) (rest : List ℕ) (e : Fault) → rest ≢ [] → IsStoppedWith text front spans rest e → fault_at text rest ≡ Some e
-unfolding stop_at scale_of_word
-stops_at text front spans rest e some stops = grind (arith, common_steps, nat_tests, no_letter_tells, take_while-drop_while)
+unfolding fault_at scale_of_word
+stops_at text front spans rest e some stops = grind (arith, common_steps, nat_tests, (word_tells (after_fraction rest)), (no_word_ends rest), (take_while-drop_while is_letter (after_fraction rest)))
 
 -- The tests find no error in a whole span.
 pub fine_goes : (text rest : List ℕ) → BeginsSpan rest → fault_at text rest ≡ None
-unfolding stop_at
+unfolding fault_at
 fine_goes text rest s = grind (arith, common_steps, some_letters)
 
 -- An error that the tests find is one of the table.
 pub wrong_stops : (text front : List ℕ) (spans : List SpelledSpan) (rest : List ℕ) (e : Fault) → rest ≢ [] → (begins is_digit rest ≡ false → (spans ≡ []) ⊎ (ends is_whitespace front ≡ true))
     → fault_at text rest ≡ Some e → IsStoppedWith text front spans rest e
-unfolding stop_at
-wrong_stops text front spans rest e some first found = grind (arith, common_steps)
+unfolding fault_at
+wrong_stops text front spans rest e some first found =
+    let bare : may_be_word (after_fraction rest) ≡ true → (word_of rest ≢ []) ⊎ (after_word rest ≡ []) = (word_tells (after_fraction rest)).0 in
+    let word : word_of rest ≢ [] → may_be_word (after_fraction rest) ≡ true = λ w. (word_tells (after_fraction rest)).1 (inl w) in
+    grind (arith, bare, word, (no_digits (fraction_of rest)), (no_word_ends rest))
 
 -- If the tests find no error, the rest begins with a whole span.
 pub is_fine : (text rest : List ℕ) → fault_at text rest ≡ None → BeginsSpan rest
-unfolding stop_at
-is_fine text rest s = grind arith
+unfolding fault_at
+is_fine text rest s = grind (arith, (word_tells (after_fraction rest)), (some_letters (word_of rest)))
 
 -- ==== A rest that begins with a well-formed span is a spelling of that span followed by the text after it.
 

@@ -1,53 +1,57 @@
 -- The walk over a text finds the one list of spans that the text consists of, and its first error.
-use Rattle.std.proofs.Common.{◌≡◌, ◌≢◌, ℕ, zero, suc, ◌≤◌, Bool, false, List, [], ◌∷◌, length, Some, None, if◌then◌else◌, refl, arith, ◌⊎◌, true, ◌++◌, map, Option, inl, append-nil, sym, ap, length-append, inr, append_assoc}
+use Rattle.std.proofs.lemmas.List.{length-map}
+use Rattle.std.proofs.Common.{◌==◌, ◌≡◌, ◌≢◌, ℕ, zero, suc, ◌≤◌, false, List, [], ◌∷◌, length, Some, None, refl, arith, ◌⊎◌, true, ◌++◌, map, Option, inl, append-nil, sym, ap, length-append, inr, append_assoc}
+use Rattle.std.proofs.lemmas.Bool.Decides.{nat_tests}
 use Rattle.std.proofs.lemmas.Grind.{common_steps}
 use Rattle.std.specs.List.{AllByRecursion}
-use Rattle.humantime.specs.DurationErrors.{Fault, Empty, Split, may_follow_span, span_of, NumberOverflow, BeginsSpan, HasFault}
-use Rattle.humantime.specs.Walks.{Walk, empty_walk, one_more, walk, walk_from, fault_at, spans_of_walk, items, walk_of}
-use Rattle.humantime.specs.Characters.{begins, ends, drop_while, take_while, is_whitespace, bare_zero, is_digit}
+use Rattle.humantime.specs.DurationErrors.{Fault, NumberExpected, OnlyWhitespace, Split, may_follow_span, span_of, NumberOverflow, BeginsSpan, HasFault}
+use Rattle.humantime.specs.Walks.{Walk, walk, walk_from, fault_at, stop_at, items, walk_of}
+use Rattle.humantime.specs.Characters.{begins, ends, drop_while, take_while, is_whitespace, bare_zero, is_digit, offset_of}
 use Rattle.humantime.specs.Durations.{SpelledSpan, SpellsEach, SpellsAll, Reads, Spells, Formed, WithinLimits}
 use Rattle.humantime.specs.Items.{Items, EndsOrStops}
 use Rattle.humantime.proofs.Spellings.{next_of, next_smaller, IsSpelledAt, spelled_here, apart, fine_goes, stops_at, each-append, spells_each-append, is_fine, wrong_stops, written_here}
 use Rattle.humantime.proofs.Characters.{digit_is_numeric, digit_not_whitespace, drop_while-append, begins-append, ends-append, take_while-drop_while, take_while-only, begins-drop_while}
 use Rattle.humantime.proofs.Sums.{within_tells, within_or_beyond}
 
--- ==== Induction over the walk over the spans of a text, one span at a time, whatever its bound on the number of spans.
+-- ==== Induction over the walk over the spans of a text, whatever its bound on the number of spans.
 
--- What has to be proved of each rest and of the walk from there: at the end, at an error, and at a span.
-pub record Steps (text : List ℕ) (P : Bool → List ℕ → Walk → Type 0) : Type 0 where
-  pub end : (first : Bool) → P first [] (empty_walk [] (if first then Some Empty else None))
-  pub wrong : (first : Bool) (rest : List ℕ) (e : Fault) → rest ≢ [] → fault_at text rest ≡ Some e → P first rest (empty_walk rest (Some e))
-  pub right : (first : Bool) (rest : List ℕ) (w : Walk) → fault_at text rest ≡ None → P false (next_of rest) w → P first rest (one_more rest w)
+-- What has to be proved of each rest and of the walk from there: at an error or the end of the text, and at a span.
+pub record Steps (text : List ℕ) (P : List ℕ → Walk → Type 0) : Type 0 where
+  pub stop : (rest : List ℕ) (e : Fault) → fault_at text rest ≡ Some e → P rest (record { starts = []; rest = rest })
+  pub go : (rest : List ℕ) (w : Walk) → fault_at text rest ≡ None → P (next_of rest) w → P rest (record { starts = rest ∷ w.starts; rest = w.rest })
 
-by_count : (n : ℕ) (text : List ℕ) (P : Bool → List ℕ → Walk → Type 0) → Steps text P → (first : Bool) (rest : List ℕ) → length rest ≤ n → P first rest (walk n first text rest)
+-- No span begins at the end of the text.
+no_span_at_end : (text : List ℕ) → fault_at text [] ≡ Some (NumberExpected (offset_of text []))
+unfolding fault_at
+no_span_at_end text = refl
+
+by_count : (n : ℕ) (text : List ℕ) (P : List ℕ → Walk → Type 0) → Steps text P → (rest : List ℕ) → length rest ≤ n → P rest (walk n text rest)
 unfolding walk
-by_count n text P s first [] h = s.end first
-by_count zero text P s first (c ∷ cs) h = absurd (omega arith)
-by_count (suc n) text P s first (c ∷ cs) h =
+by_count n text P s [] h = s.stop [] _ (no_span_at_end text)
+by_count zero text P s (c ∷ cs) h = absurd (omega arith)
+by_count (suc n) text P s (c ∷ cs) h =
     let rest = c ∷ cs in
-    grind (arith, (s.wrong first rest), (s.right first rest), (next_smaller rest), (by_count n text P s false (next_of rest)))
+    grind (arith, (s.stop rest), (s.go rest), (is_fine text rest), (next_smaller rest), (by_count n text P s (next_of rest)))
 
-pub by_walk : (text : List ℕ) (P : Bool → List ℕ → Walk → Type 0) → Steps text P → (first : Bool) (rest : List ℕ) → P first rest (walk_from first text rest)
-by_walk text P s first rest = by_count (length rest) text P s first rest (omega arith)
+pub by_walk : (text : List ℕ) (P : List ℕ → Walk → Type 0) → Steps text P → (rest : List ℕ) → P rest (walk_from text rest)
+by_walk text P s rest = by_count (length rest) text P s rest (omega arith)
 
 -- As many steps as the rest has characters are enough.
-enough : (n m : ℕ) (first : Bool) (text rest : List ℕ) → length rest ≤ n → length rest ≤ m → walk n first text rest ≡ walk m first text rest
+enough : (n m : ℕ) (text rest : List ℕ) → length rest ≤ n → length rest ≤ m → walk n text rest ≡ walk m text rest
 unfolding walk
-enough (suc n) (suc m) first text (c ∷ cs) h k =
-    grind (arith, (enough n m false text (next_of (c ∷ cs))), (next_smaller (c ∷ cs)))
-enough n m first text rest h k = grind arith
+enough (suc n) (suc m) text (c ∷ cs) h k =
+    grind (arith, (is_fine text (c ∷ cs)), (next_smaller (c ∷ cs)), (enough n m text (next_of (c ∷ cs))))
+enough n m text rest h k = grind arith
 
-pub walk-end : (first : Bool) (text : List ℕ) → walk_from first text [] ≡ empty_walk [] (if first then Some Empty else None)
+pub walk-stop : (text rest : List ℕ) (e : Fault) → fault_at text rest ≡ Some e → walk_from text rest ≡ record { starts = []; rest = rest }
 unfolding walk
-walk-end first text = refl
+walk-stop text [] e h = refl
+walk-stop text (c ∷ cs) e h = grind arith
 
-pub walk-wrong : (first : Bool) (text rest : List ℕ) (e : Fault) → rest ≢ [] → fault_at text rest ≡ Some e → walk_from first text rest ≡ empty_walk rest (Some e)
+pub walk-go : (text rest : List ℕ) → fault_at text rest ≡ None → walk_from text rest ≡ record { starts = rest ∷ (walk_from text (next_of rest)).starts; rest = (walk_from text (next_of rest)).rest }
 unfolding walk
-walk-wrong first text rest e some h = grind arith
-
-pub walk-right : (first : Bool) (text rest : List ℕ) → fault_at text rest ≡ None → walk_from first text rest ≡ one_more rest (walk_from false text (next_of rest))
-unfolding walk
-walk-right first text rest h = grind (arith, enough, (next_smaller rest))
+walk-go text [] h = grind (arith, no_span_at_end)
+walk-go text (c ∷ cs) h = grind (arith, enough, (is_fine text (c ∷ cs)), (next_smaller (c ∷ cs)))
 
 -- ==== The walk over a text finds the spans that the text consists of.
 
@@ -74,41 +78,42 @@ first_here body rest s ss h o e =
     let p = apart body h.0 s h.1 in
     grind (arith, common_steps, p, (closes_here p.0 h.0 rest ss h.2), (spelled_here p.0 (h.0 ++ rest) s p.2), (no_whitespace_before h.0 rest ss h.2 e))
 
--- Whether no span precedes the rest, after these spans.
-abbrev pub first_after : Bool → List SpelledSpan → Bool
-first_after first [] = first
-first_after first (s ∷ ss) = false
-
--- These spans, followed by those of a walk.
-abbrev pub followed_by : List SpelledSpan → Walk → List SpelledSpan × Option Fault
-followed_by spans w = (spans ++ map span_of w.starts, w.stop)
+-- The spans from a rest on, and the rest after them.
+abbrev pub walked : List ℕ → List ℕ → List SpelledSpan × List ℕ
+walked text rest = let w = walk_from text rest in (map span_of w.starts, w.rest)
 
 -- The walk passes these spans and continues at the rest.
-through : (text body rest : List ℕ) (first : Bool) (spans : List SpelledSpan) → SpellsEach body spans → AllByRecursion Formed spans → (spans ≡ []) ⊎ Closes body rest → begins is_whitespace rest ≡ false
-    → spans_of_walk (walk_from first text (body ++ rest)) ≡ followed_by spans (walk_from (first_after first spans) text rest)
-through text body rest first [] h f o e = rw h refl
-through text body rest first (s ∷ ss) h f o e =
+through : (text body rest : List ℕ) (spans : List SpelledSpan) → SpellsEach body spans → AllByRecursion Formed spans → (spans ≡ []) ⊎ Closes body rest → begins is_whitespace rest ≡ false
+    → walked text (body ++ rest) ≡ (spans ++ (walked text rest).0, (walked text rest).1)
+through text body rest [] h f o e = rw h refl
+through text body rest (s ∷ ss) h f o e =
     let p = apart body h.0 s h.1 in
-    let more = through text h.0 rest false ss h.2 f.1 in
-    grind (arith, p, (closes_more p.0 h.0 rest ss h.2), (first_here body rest s ss h), more, (walk-right first text (body ++ rest)), (fine_goes text (body ++ rest)))
+    let more = through text h.0 rest ss h.2 f.1 in
+    grind (arith, p, (closes_more p.0 h.0 rest ss h.2), (first_here body rest s ss h), more, (walk-go text (body ++ rest)), (fine_goes text (body ++ rest)))
 
 -- The front of a split begins after the leading whitespace.
 pub front_begins : (text front rest : List ℕ) (spans : List SpelledSpan) (h : Split text front spans rest) → drop_while is_whitespace text ≡ h.spelled.body ++ rest
 front_begins text front rest spans h = grind (arith, common_steps, drop_while-append, no_whitespace_before)
 
 pub front_walked : (text front rest : List ℕ) (spans : List SpelledSpan) → Split text front spans rest → AllByRecursion Formed spans → (spans ≡ []) ⊎ Closes front rest
-    → items text ≡ followed_by spans (walk_from (first_after true spans) text rest)
+    → walked text (drop_while is_whitespace text) ≡ (spans ++ (walked text rest).0, (walked text rest).1)
 front_walked text front rest spans h f o =
-    grind (arith, (front_begins text front rest spans h), (through text h.spelled.body rest true spans h.spelled.each f), closes_more)
+    grind (arith, (front_begins text front rest spans h), (through text h.spelled.body rest spans h.spelled.each f), closes_more)
 
 -- The walk ends where the items do.
-ends_walked : (text front rest : List ℕ) (spans : List SpelledSpan) (stop : Option Fault) → EndsOrStops text front spans rest stop → walk_from (first_after true spans) text rest ≡ empty_walk rest stop
-ends_walked text front (c ∷ cs) spans (Some e) h = walk-wrong (first_after true spans) text (c ∷ cs) e (λ n. cc) (stops_at text front spans (c ∷ cs) e (λ n. cc) h)
-ends_walked text front rest spans stop h = grind (arith, walk-end)
+ends_walked : (text front rest : List ℕ) (spans : List SpelledSpan) (stop : Option Fault) → EndsOrStops text front spans rest stop
+    → (walk_from text rest ≡ record { starts = []; rest = rest }) × (stop_at (length spans == 0) text rest ≡ stop)
+ends_walked text front (c ∷ cs) spans (Some e) h =
+    let here = stops_at text front spans (c ∷ cs) e (λ n. cc) h in
+    (walk-stop text (c ∷ cs) e here, here)
+ends_walked text front [] (x ∷ xs) stop h = grind (arith, nat_tests, (walk-stop text [] _ (no_span_at_end text)))
+ends_walked text front rest spans stop h = grind (arith, (walk-stop text [] _ (no_span_at_end text)))
 
 -- The reference finds any items of a text.
 pub items_walked : (text : List ℕ) (spans : List SpelledSpan) (stop : Option Fault) → Items text spans stop → items text ≡ (spans, stop)
-items_walked text spans stop h = grind (arith, (front_walked text h.front h.rest spans h.split h.formed), (ends_walked text h.front h.rest spans stop h.ends), append-nil)
+unfolding items
+items_walked text spans stop h =
+    grind (arith, (front_walked text h.front h.rest spans h.split h.formed), (ends_walked text h.front h.rest spans stop h.ends), append-nil, length-map)
 
 -- ==== A text is at most one list of spans, and the text `0` is none.
 
@@ -155,42 +160,52 @@ read_on text front rest spans r f =
 begun : (text : List ℕ) → IsReadTo text (take_while is_whitespace text) [] (drop_while is_whitespace text)
 begun text = grind (arith, common_steps, take_while-drop_while, take_while-only, begins-drop_while)
 
--- The items of a text are these spans, followed by those of a walk. If the spans break a limit only together with those of the walk, so does
--- the span at which the sum overflows.
-abbrev ItemsAfter : List ℕ → List SpelledSpan → Walk → Type 0
-ItemsAfter text spans w =
-    (i : Items text (spans ++ map span_of w.starts) w.stop) × (i.rest ≡ w.rest)
+-- The text after these spans is parsed up to the end of a walk. If the spans break a limit only together with those of the walk, so does the
+-- span at which the sum overflows.
+abbrev ReadsOn : List ℕ → List ℕ → Walk → Type 0
+ReadsOn text rest w = (front : List ℕ) (spans : List SpelledSpan) → IsReadTo text front spans rest
+    → ((end : List ℕ) × IsReadTo text end (spans ++ map span_of w.starts) w.rest)
     × (text ≢ bare_zero → WithinLimits spans → ¬ (WithinLimits (spans ++ map span_of w.starts)) → HasFault text NumberOverflow)
 
-items_end : (text front rest : List ℕ) (spans : List SpelledSpan) (stop : Option Fault) → IsReadTo text front spans rest → EndsOrStops text front spans rest stop
-    → ItemsAfter text spans (empty_walk rest stop)
-items_end text front rest spans stop r e =
-    rw (append-nil spans) (record { front = front; rest = rest; split = r.split; formed = r.formed; ends = e }, refl, λ some within big. absurd (big within))
-
-abbrev Found : List ℕ → Bool → List ℕ → Walk → Type 0
-Found text first rest w = (front : List ℕ) (spans : List SpelledSpan) → IsReadTo text front spans rest → first_after true spans ≡ first → ItemsAfter text spans w
-
-found : (text : List ℕ) → Steps text (Found text)
-found text = record {
-  end = λ first front spans r before. items_end text front [] spans (if first then Some Empty else None) r (grind arith);
-  wrong = λ first rest e some s front spans r before. items_end text front rest spans (Some e) r (wrong_stops text front spans rest e some (r.follows some) s);
-  right = λ first rest w s more front spans r before.
+reads_on : (text : List ℕ) → Steps text (ReadsOn text)
+reads_on text = record {
+  stop = λ rest e s front spans r. rw (append-nil spans) ((front, r), λ some within big. absurd (big within));
+  go = λ rest w s more front spans r.
       let fine = is_fine text rest s in
       let k = read_on text front rest spans r fine in
-      let i = rw append_assoc at (more (front ++ k.0) (spans ++ span_of rest ∷ []) k.1 (grind arith)) in
+      let i = rw append_assoc at (more (front ++ k.0) (spans ++ span_of rest ∷ []) k.1) in
       elim (within_or_beyond (spans ++ span_of rest ∷ []) k.1.formed) [
-        | inl h ↦ (i.0, i.1, λ some g big. i.2 some h big)
-        | inr o ↦ (i.0, i.1, λ some g big. grind (arith, (r.split), fine, o))
+        | inl h ↦ (i.0, λ some g big. i.1 some h big)
+        | inr o ↦ (i.0, λ some g big. grind (arith, (r.split), fine, o))
       ];
 }
 
+-- The text ends or stops where no span begins.
+pub stops_here : (text front rest : List ℕ) (spans : List SpelledSpan) (e : Fault) → IsReadTo text front spans rest → fault_at text rest ≡ Some e
+    → EndsOrStops text front spans rest (stop_at (length spans == 0) text rest)
+stops_here text front [] [] e r s = OnlyWhitespace refl refl refl
+stops_here text front [] (x ∷ xs) e r s = grind (arith, nat_tests)
+stops_here text front (c ∷ cs) spans e r s = rw s (wrong_stops text front spans (c ∷ cs) e (λ n. cc) (r.follows (λ n. cc)) s)
+
+stopped : (text : List ℕ) → Steps text (λ rest w. (e : Fault) × (fault_at text w.rest ≡ Some e))
+stopped text = record { stop = λ rest e s. (e, s); go = λ rest w s more. more }
+
+read_all : (text : List ℕ) → ReadsOn text (drop_while is_whitespace text) (walk_of text)
+read_all text = by_walk text (ReadsOn text) (reads_on text) (drop_while is_whitespace text)
+
 -- The items of a text, and the rest after them.
-pub items_found_at : (text : List ℕ) → ItemsAfter text [] (walk_of text)
-items_found_at text = by_walk text (Found text) (found text) true (drop_while is_whitespace text) (take_while is_whitespace text) [] (begun text) refl
+pub items_found_at : (text : List ℕ) → (i : Items text (items text).0 (items text).1) × (i.rest ≡ (walk_of text).rest)
+unfolding items
+items_found_at text =
+    let r = (read_all text (take_while is_whitespace text) [] (begun text)).0 in
+    let e = by_walk text _ (stopped text) (drop_while is_whitespace text) in
+    let ends = rw (length-map (walk_of text).starts span_of) at (stops_here text r.0 (walk_of text).rest _ e.0 r.1 e.1) in
+    (record { front = r.0; rest = (walk_of text).rest; split = r.1.split; formed = r.1.formed; ends = ends }, refl)
 
 pub items_found : (text : List ℕ) → Items text (items text).0 (items text).1
 items_found text = (items_found_at text).0
 
 -- If the spans of a text break a limit, its fault is an overflow.
 pub too_large_found : (text : List ℕ) → text ≢ bare_zero → ¬ (WithinLimits (items text).0) → HasFault text NumberOverflow
-too_large_found text some = (items_found_at text).2 some ((within_tells [] tt).0 refl)
+unfolding items
+too_large_found text some = (read_all text (take_while is_whitespace text) [] (begun text)).1 some ((within_tells [] tt).0 refl)

@@ -1,10 +1,10 @@
 -- The items of a text of a duration, and the results of the calls on durations.
-use Rattle.std.specs.Prelude.{ℕ, Bool, List, Option, map, option_map, Result, Ok, Err, ◌≡◌, ◌↔◌, ◌/◌, ◌%◌, [], ◌∷◌, IfErr, bytes_eq, chars, if◌then◌else◌}
+use Rattle.std.specs.Prelude.{ℕ, Bool, true, ◌&&◌, ◌==◌, length, List, Option, map, option_map, Result, Ok, Err, ◌≡◌, ◌↔◌, ◌/◌, ◌%◌, [], ◌∷◌, IfErr, bytes_eq, chars, if◌then◌else◌}
 use Rattle.std.specs.Str.{drop_trailing_whitespace}
 use Rattle.humantime.specs.Characters.{take_while, drop_while, decimal_value, is_whitespace, is_numeric, digits, offset_of, bare_zero}
 use Rattle.humantime.specs.Durations.{SpelledSpan, Accepted}
 use Rattle.humantime.specs.DurationErrors.{number_of, after_number, after_point, word_of, after_word, Fault, result_view, PointsInto, HasFault}
-use Rattle.humantime.specs.Walks.{Walk, walk_from, walk_of, items, sum_spans}
+use Rattle.humantime.specs.Walks.{walk_from, stop_at, items, sum_spans}
 use Rattle.humantime.specs.Items.{SpanView, items_of}
 use Rattle.humantime.specs.PrintedDurations.{weights, suffixes, printed_counts, joined_by_space}
 use Rattle.humantime.specs.declared.duration.error.DurationError.{DurationError}
@@ -34,17 +34,15 @@ view_at text rest = record {
   value = decimal_value (number_of rest);
 }
 
--- The views of the spans of a walk, followed by the error that stops them, if any.
-abbrev pub views_on : List ℕ → Walk → List (Result SpanView Fault)
-views_on text w = items_of (map (view_at text) w.starts) w.stop
-
--- The items from `rest` on. `first` is true if no span precedes it.
-abbrev pub left_at : Bool → List ℕ → List ℕ → List (Result SpanView Fault)
-left_at first text rest = views_on text (walk_from first text rest)
+-- The items from `rest` on: the views of the spans, followed by the error that stops them, if any. `first` is true if no span precedes `rest`.
+unfoldable pub left_at : Bool → List ℕ → List ℕ → List (Result SpanView Fault)
+left_at first text rest =
+    let w = walk_from text rest in
+    items_of (map (view_at text) w.starts) (stop_at (first && length w.starts == 0) text w.rest)
 
 -- All items of a text.
 abbrev pub item_views : List ℕ → List (Result SpanView Fault)
-item_views text = views_on text (walk_of text)
+item_views text = left_at true text (drop_while is_whitespace text)
 
 -- The span that has these slices.
 abbrev pub spelled : List ℕ → Option (List ℕ) → List ℕ → SpelledSpan

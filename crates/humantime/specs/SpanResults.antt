@@ -13,12 +13,12 @@ use Rattle.humantime.specs.DurationResults.{left_at, trimmed}
 -- The slices, offsets and number of a span.
 abbrev pub span_view : Span → SpanView
 span_view s = record {
-  number = drop_trailing_whitespace (chars s.number.now);
-  fraction = option_map (λ f. trimmed (chars f.1.now)) s.fraction;
+  number = drop_trailing_whitespace (chars s.number.text.now);
+  fraction = option_map (λ f. trimmed (chars f.1.now)) s.number.fraction;
   unit = chars s.unit.now;
   start = s.start;
   end = s.end;
-  value = s.value;
+  value = s.number.value;
 }
 
 -- The view of an item: that of its span, or the fault of its error.

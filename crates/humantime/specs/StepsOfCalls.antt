@@ -6,15 +6,16 @@ use Rattle.std.specs.Str.{all_ascii_digits, byte}
 use Rattle.std.specs.List.{join_with_byte}
 use Rattle.humantime.specs.declared.duration.digits.Fraction.{Fraction}
 use Rattle.humantime.specs.declared.duration.error.DurationError.{DurationError}
+use Rattle.humantime.specs.declared.duration.span.Number.{Number}
 use Rattle.humantime.specs.declared.duration.span.Span.{Span}
-use Rattle.humantime.specs.Characters.{begins, take_while, drop_while, decimal_value, is_digit, is_numeric, is_whitespace, is_letter, u64_max}
+use Rattle.humantime.specs.Characters.{begins, take_while, decimal_value, is_digit, is_numeric, is_whitespace, u64_max}
 use Rattle.humantime.specs.Durations.{SpelledSpan, has_too_many_digits, too_long, Quantity, size, of_kind, times, fits_u64, is_whole_part}
-use Rattle.humantime.specs.DurationErrors.{fault_of, number_of, after_number, fraction_of, after_point, after_fraction, after_word, span_of, may_follow_span, Fault}
+use Rattle.humantime.specs.DurationErrors.{fault_of, number_of, after_number, after_point, after_fraction, after_word, span_of, may_follow_span, Fault}
 use Rattle.humantime.specs.Items.{SpanView}
 use Rattle.humantime.specs.DurationResults.{spelled, view_at}
 use Rattle.humantime.specs.SpanResults.{span_view}
-use Rattle.humantime.specs.Walks.{fault_at, add}
-use Rattle.humantime.specs.StepsOfParts.{Counted, counted, numbers_in, IsTail, begins_with_nonletter}
+use Rattle.humantime.specs.Walks.{fault_at, has_bare_point, add}
+use Rattle.humantime.specs.StepsOfParts.{Counted, counted, parts_of, IsTail}
 use Rattle.humantime.specs.declared.calendar.Date.{Date}
 use Rattle.humantime.specs.declared.date.error.TimestampError.{TimestampError}
 use Rattle.humantime.specs.declared.date.error.TimestampError.TheVariants.{InvalidDigit, InvalidFormat}
@@ -31,19 +32,24 @@ use Rattle.humantime.specs.PrintedDurations.{Suffix, printed_counts}
 abbrev pub read_view : {A B : Type 0} → (A → B) → Option (A × Bor (List ℕ)) → Option (B × List ℕ)
 read_view view r = option_map (λ x. (view x.0, chars x.1.now)) r
 
+-- The text of a number, and that of its fraction, if any.
+abbrev pub number_view : Number → List ℕ × Option (List ℕ)
+number_view n = (chars n.text.now, option_map (λ f. chars f.1.now) n.fraction)
+
+-- The three numbers of a fraction, and its text.
+abbrev pub fraction_view : Fraction × Bor (List ℕ) → Counted × List ℕ
+fraction_view f = (parts_of f.0, chars f.1.now)
+
 -- Reads the number at the start of a text. A number that does not fit in a `u64` is too long.
-abbrev pub read_number : List ℕ → Option (ℕ × List ℕ)
+abbrev pub read_number : List ℕ → Option ((List ℕ × Option (List ℕ)) × List ℕ)
 read_number text =
-    if nat_lt u64_max (decimal_value (number_of text)) then None else Some (decimal_value (number_of text), after_number text)
+    if nat_lt u64_max (decimal_value (number_of text)) then None else Some ((take_while is_numeric text, None), after_number text)
 
 -- Reads the digits of a fraction at the start of a text, if any. More than 19 before the trailing zeros are too long.
-abbrev pub read_fraction : List ℕ → Option (Counted × List ℕ)
+abbrev pub read_fraction : List ℕ → Option ((Counted × List ℕ) × List ℕ)
 read_fraction text =
-    if has_too_many_digits (Some (number_of text)) then None else Some (counted (number_of text), after_number text)
-
--- Returns what follows the letters at the start of a text, which must be empty or begin with a letter.
-abbrev pub skip_word : List ℕ → Option (List ℕ)
-skip_word text = if begins_with_nonletter text then None else Some (drop_while is_letter text)
+    if has_too_many_digits (Some (number_of text)) then None
+    else Some ((counted (number_of text), take_while is_numeric text), after_number text)
 
 -- Returns a text without its first character if that is whitespace.
 abbrev pub after_space : List ℕ → List ℕ
@@ -69,18 +75,15 @@ span_result r = result_map_both (λ x. (span_view x.0, chars x.1.now)) fault_of 
 abbrev pub spelled_in : Span → SpelledSpan
 spelled_in s = let x = span_view s in spelled x.number x.fraction x.unit
 
--- The number at the start of `rest` and its fraction, if any, were read, and neither is too long: these are their values, that of the
--- fraction with its slice, each before the text that follows it.
-pub record HasRead (rest : List ℕ) (value : ℕ) (after_value : List ℕ) (fraction : Option (Fraction × Bor (List ℕ))) (after_digits : List ℕ) : Type 0 where
+-- The number at the start of `rest` and its fraction, if any, were read, and `after` follows them: these are their texts, neither is too
+-- long, and no point is bare.
+pub record IsNumberAt (rest : List ℕ) (number : Number) (after : List ℕ) : Type 0 where
   pub digit : begins is_digit (chars rest) ≡ true
   pub short : too_long (span_of (chars rest)) ≡ false
-  pub value_is : value ≡ decimal_value (number_of (chars rest))
-  pub after_value_is : chars after_value ≡ after_number (chars rest)
-  pub fraction_is : numbers_in fraction ≡ option_map counted (fraction_of (chars rest))
-  pub digits_are : option_map (λ f. chars f.1.now) fraction ≡ option_map (take_while is_numeric) (after_point (after_number (chars rest)))
-  pub after_digits_is : chars after_digits ≡ after_fraction (chars rest)
-  pub value_tail : IsTail rest after_value
-  pub digits_tail : IsTail rest after_digits
+  pub pointed : has_bare_point (chars rest) ≡ false
+  pub texts : number_view number ≡ (take_while is_numeric (chars rest), option_map (take_while is_numeric) (after_point (after_number (chars rest))))
+  pub after_is : chars after ≡ after_fraction (chars rest)
+  pub tail : IsTail rest after
 
 -- ==== Quantities added to a duration of `t` nanoseconds. `None` means that a limit is broken.
 

@@ -1,13 +1,11 @@
 -- Steps of the parser of durations: whitespace, digits, and what a span keeps of its text.
-use Rattle.std.specs.Prelude.{◌≡◌, ℕ, List, length, Option, Some, option_map, chars, bytes_eq, ltb, not, filter, ◌≤◌, ◌<◌, ◌^◌, ◌-◌, ◌++◌, Bool, [], ◌∷◌, IfSome, IfNone, SomeIff, ◌+◌, drop, if◌then◌else◌, IsUtf8, IsCharBoundary}
+use Rattle.std.specs.Prelude.{◌≡◌, ℕ, List, length, Option, option_map, chars, bytes_eq, ltb, not, filter, ◌≤◌, ◌<◌, ◌^◌, ◌-◌, ◌++◌, [], ◌∷◌, IfSome, IfNone, SomeIff, ◌+◌, drop, if◌then◌else◌, IsUtf8, IsCharBoundary}
 use Rattle.std.specs.Borrow.{Bor}
 use Rattle.std.specs.Map.{lookup}
-use Rattle.std.specs.Str.{drop_trailing_whitespace}
 use Rattle.std.specs.Char.{len_utf8}
 use Rattle.humantime.specs.declared.duration.digits.Fraction.{Fraction}
-use Rattle.humantime.specs.Characters.{decimal_value, without_trailing_zeros, begins, drop_while, is_whitespace, is_letter, max_fraction_digits}
-use Rattle.humantime.specs.Durations.{Quantity, Nanos, Seconds, Scale, words, scale_of_word, SpelledSpan}
-use Rattle.humantime.specs.DurationResults.{spelled, trimmed}
+use Rattle.humantime.specs.Characters.{decimal_value, digits, without_trailing_zeros, drop_while, is_whitespace, max_fraction_digits}
+use Rattle.humantime.specs.Durations.{Quantity, Nanos, Seconds, Scale, words}
 
 -- ==== The digits and spans that the `Fraction` and `Span` of the code represent.
 
@@ -23,21 +21,10 @@ counted ds = (decimal_value (without_trailing_zeros ds), length (without_trailin
 abbrev pub parts_of : Fraction → Counted
 parts_of f = (f.significand, f.exponent, f.len)
 
--- Returns the three numbers of a fraction that was read with its slice.
-abbrev pub numbers_in : Option (Fraction × Bor (List ℕ)) → Option Counted
-numbers_in fraction = option_map (λ f. parts_of f.0) fraction
-
--- These are the value, the fraction and the scale of the span.
-pub record IsAmountOf (s : SpelledSpan) (value : ℕ) (fraction : Option Counted) (scale : Scale) : Type 0 where
-  pub value_is : value ≡ decimal_value s.number
-  pub fraction_is : fraction ≡ option_map counted s.fraction
-  pub scale_is : scale_of_word s.word ≡ Some scale
-
--- They are those of the span whose number, fraction and unit the slices hold, with whitespace after the number and around the fraction.
-abbrev pub IsAmountRead : List ℕ → ℕ → Option (Fraction × Bor (List ℕ)) → List ℕ → Scale → Type 0
-IsAmountRead number value fraction unit scale =
-    let digits = option_map (λ f. trimmed (chars f.1.now)) fraction in
-    IsAmountOf (spelled (drop_trailing_whitespace (chars number)) digits (chars unit)) value (numbers_in fraction) scale
+-- The value is that of the digits of the text, and the numbers of the fraction, if any, are those of the digits of its text.
+pub record IsNumberRead (text : List ℕ) (value : ℕ) (fraction : Option (Fraction × Bor (List ℕ))) : Type 0 where
+  pub value_is : value ≡ decimal_value (digits (chars text))
+  pub fraction_is : option_map (λ f. parts_of f.0) fraction ≡ option_map (λ f. counted (digits (chars f.1.now))) fraction
 
 -- Returns the seconds of a quantity, or 0 for one of nanoseconds.
 abbrev whole_seconds : Quantity → ℕ
@@ -64,10 +51,6 @@ pub record IsTail (text rest : List ℕ) : Type 0 where
   pub ends : rest ≡ drop (length text - length rest) text
   pub utf8 : IsUtf8 rest
   pub whole : IsUtf8 text
-
--- Tests whether a text begins with a character other than a letter.
-abbrev pub begins_with_nonletter : List ℕ → Bool
-begins_with_nonletter text = begins (λ c. not (is_letter c)) text
 
 -- Returns the length in bytes of the whitespace character at the start of a text, or 0 if there is none.
 abbrev pub whitespace_len : List ℕ → ℕ

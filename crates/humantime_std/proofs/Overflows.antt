@@ -20,8 +20,8 @@ use Rattle.humantime.specs.SpanResults.{GivesItem, item_of, items_left, span_vie
 use Rattle.humantime.specs.declared.duration.error.DurationError.{DurationError}
 use Rattle.humantime.specs.declared.duration.iter.SpanIter.{SpanIter}
 use Rattle.humantime.specs.declared.duration.span.Span.{Span}
-use Rattle.humantime.specs.DurationResults.{IsDurationAnswer, view_at}
-use Rattle.humantime.specs.Walks.{walk_of}
+use Rattle.humantime.specs.DurationResults.{IsDurationAnswer, left_at, view_at}
+use Rattle.humantime.specs.Walks.{items, walk_of}
 use Rattle.humantime.proofs.Outcomes.{accepted_spans, items_decide_fault, items_decide_value, outcome_accepted, outcome_fault}
 use Rattle.humantime.proofs.Characters.{begins-drop_while, drop_while_shorter, take_while-drop_while, take_while-only}
 use Rattle.humantime.proofs.TextWalks.{Steps, by_walk, items_found_at}
@@ -66,6 +66,7 @@ ok_at (x ∷ xs) stop (suc k) = ok_at xs stop k
 -- What `nth` of the spans returned, if it is no error, is the span at this index.
 pub nth_is : (text : List ℕ) (it u : SpanIter) (r : Option (Result Span DurationError)) (k : ℕ) → AreItems text (items_left it) → SkipsThenYields GivesItem it k r u
     → option_map span_view (option_and_then result_ok r) ≡ span_at k text
+unfolding left_at
 nth_is text it u r k are ran =
     let item = nth_from_yields_List r u k ran (YieldsList-from_shown GivesItem item_of items_left (λ s t g. ap length g.0.0) (λ s x t g. g.0) it) in
     let same : option_map span_view (option_and_then result_ok r) ≡ option_and_then result_ok (option_map item_of r) = grind arith in
@@ -91,8 +92,8 @@ Follows rest (r ∷ rs) end = (rest ≡ r) × BeginsSpan r × Follows (next_of r
 
 walked : (text : List ℕ) → Follows (drop_while is_whitespace text) (walk_of text).starts (walk_of text).rest
 walked text =
-    let steps : Steps text (λ first rest w. Follows rest w.starts w.rest) = grind (arith, is_fine) in
-    by_walk text _ steps true (drop_while is_whitespace text)
+    let steps : Steps text (λ rest w. Follows rest w.starts w.rest) = grind (arith, is_fine) in
+    by_walk text _ steps (drop_while is_whitespace text)
 
 -- The text up to a rest is the spans before it.
 split_on : (text front rest : List ℕ) (spans : List SpelledSpan) (rs : List (List ℕ)) (end : List ℕ) (k : ℕ) → Split text front spans rest → Follows rest rs end
@@ -217,6 +218,7 @@ overflows_here text k o s h fit beyond found is =
 -- If all its spans are within the limits, it overflows at what follows them.
 pub overflows_to_end : (bs : List ℕ) (k : ℕ) (o : Option Span) → IsUtf8 bs → HasFault (chars bs) NumberOverflow → Fit (chars bs) k
     → option_map span_view o ≡ span_at k (chars bs) → o ≡ None → OverflowsAt (chars bs) (start_at k (chars bs)) (length bs)
+unfolding items
 overflows_to_end bs k o utf8 h fit found is =
     let text = chars bs in
     let items = items_found_at text in

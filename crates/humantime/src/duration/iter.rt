@@ -50,7 +50,7 @@ impl<'a> Iterator for SpanIter<'a> {
     ghost remaining = { item_count items_left };
 
     #[inline(always)]
-    #[tactic(auto, using(crate::proofs::Items::next_item), unfolding(crate::specs::Walks::walk))]
+    #[tactic(auto, using(crate::proofs::Items::next_item))]
     fn next(&mut self) -> Option<Result<Span<'a>, DurationError<'a>>> {
         if self.ended {
             return None;

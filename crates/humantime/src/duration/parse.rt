@@ -54,15 +54,15 @@ fn add_part(sum: StdDuration, one: Option<Quantity>, fraction: Fraction) -> Opti
 /// Returns `total` plus what a span adds: first its number, then its fraction. Returns `None` on overflow, or if the fraction is not a
 /// whole number of nanoseconds or of seconds.
 #[inline(always)]
-#[tactic(auto, unfolding(crate::specs::Walks::add_all, crate::specs::Walks::add_span))]
+#[tactic(auto, using(crate::proofs::Slices::amounts), unfolding(crate::specs::Walks::add_span))]
 fn add_amount(total: StdDuration, span: Span) -> Option<StdDuration>
     ensures { result ≡ add_span total (steps.spelled_in span.entry) }
 {
-    // `add_times` is called in both arms, so that `span.fraction` is tested once.
-    match span.fraction {
-        None => add_times(total, span.scale.whole, span.value),
+    // `add_times` is called in both arms, so that `fraction` is tested once.
+    match span.number.fraction {
+        None => add_times(total, span.scale.whole, span.number.value),
         Some((fraction, _)) => {
-            let sum = add_times(total, span.scale.whole, span.value)?;
+            let sum = add_times(total, span.scale.whole, span.number.value)?;
             add_part(sum, span.scale.part, fraction)
         }
     }

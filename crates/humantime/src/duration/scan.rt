@@ -3,17 +3,18 @@
 //! A `read_..` function returns a value and the rest of the string, a `skip_..` function only the rest, or the next offset if it takes one.
 //! In contracts, `IsTail text rest` says that `rest` is the end of `text`.
 
-ghost use Rattle.std.specs.Prelude.{◌≡◌, ◌==◌, ◌+◌, ◌<◌, ◌&&◌, ◌||◌, true, chars, option_map, IfSome, IsCharBoundary, ◌≢◌};
+ghost use Rattle.std.specs.Prelude.{◌≡◌, ◌==◌, ◌+◌, ◌++◌, ◌<◌, ◌&&◌, ◌||◌, true, chars, option_map, IfSome, IsCharBoundary, ◌≢◌};
 ghost use Rattle.std.specs.Prelude.{IfOk, MatchResult, length};
-ghost use Rattle.humantime.specs.Characters.{begins, drop_while, is_digit, is_whitespace, offset_of};
+ghost use Rattle.humantime.specs.Characters.{begins, drop_while, is_digit, is_letter, is_whitespace, offset_of, take_while};
 ghost use Rattle.humantime.specs.DurationErrors.{IsCharStartIn, after_point, IsRangeIn, PointsInto};
 ghost use Rattle.humantime.specs.StepsOfCalls as reader;
-ghost use Rattle.humantime.specs.StepsOfCalls.{read_view, HasRead, span_result};
-ghost use Rattle.humantime.specs.StepsOfParts.{parts_of, IsAfterWhitespace, IsTail, SkipsWhitespace};
+ghost use Rattle.humantime.specs.StepsOfCalls.{IsNumberAt, fraction_view, number_view, read_view, span_result};
+ghost use Rattle.humantime.specs.StepsOfParts.{IsAfterWhitespace, IsTail, SkipsWhitespace};
+ghost use Rattle.humantime.specs.Walks.{may_be_word};
 
 use crate::duration::digits::{Fraction, push_digit};
 use crate::duration::error::DurationError;
-use crate::duration::span::Span;
+use crate::duration::span::{Number, Span};
 use crate::unit::scale_of;
 
 /// The greatest number whose product with 10 fits in a `u64`. A digit can be appended to any smaller number.
@@ -110,13 +111,13 @@ pub(crate) fn begins_with_digit(text: &str) -> bool
     !bytes.is_empty() && bytes[0].is_ascii_digit()
 }
 
-/// Reads the digits at the start of the text, with the whitespace between and after them. Returns their value and the rest, or `None` if the
+/// Reads the digits at the start of the text, with the whitespace between and after them. Returns the number and the rest, or `None` if its
 /// value does not fit in a `u64`. The text must begin with a digit.
 #[inline(always)]
 #[tactic(auto, using(crate::proofs::Offsets::rests, crate::proofs::SpanParts::first_digit))]
-pub(crate) fn read_number(text: &str) -> Option<(u64, &str)>
+pub(crate) fn read_number(text: &str) -> Option<(Number<'_>, &str)>
     requires { begins is_digit (chars text.now) ≡ true }
-    ensures read { read_view (λ n. n) result ≡ reader.read_number (chars text.now) }
+    ensures read { read_view number_view result ≡ reader.read_number (chars text.now) }
     ensures rest { IfSome result (λ x. IsTail text.now x.1.now) }
 {
     let bytes = text.as_bytes();
@@ -139,7 +140,12 @@ pub(crate) fn read_number(text: &str) -> Option<(u64, &str)>
             break;
         }
     }
-    Some((value, &text[at..]))
+    let number = Number {
+        text: &text[..at],
+        value,
+        fraction: None,
+    };
+    Some((number, &text[at..]))
 }
 
 /// Returns what follows the decimal point at the start of the text, or `None` if there is no point.
@@ -155,12 +161,12 @@ pub(crate) fn skip_point(text: &str) -> Option<&str>
     Some(&text[1..])
 }
 
-/// Reads the digits of a fraction at the start of the text, if any, with the whitespace around and between them. Returns the digits and the
-/// rest, or `None` if there are more than 19 digits before the trailing zeros.
+/// Reads the digits of a fraction at the start of the text, if any, with the whitespace around and between them. Returns the fraction
+/// with this part of the text, and the rest, or `None` if there are more than 19 digits before the trailing zeros.
 #[inline(always)]
 #[tactic(auto, using(crate::proofs::Offsets::rests, crate::proofs::Characters::digit_is))]
-pub(crate) fn read_fraction(text: &str) -> Option<(Fraction, &str)>
-    ensures read { read_view parts_of result ≡ reader.read_fraction (chars text.now) }
+pub(crate) fn read_fraction(text: &str) -> Option<((Fraction, &str), &str)>
+    ensures read { read_view fraction_view result ≡ reader.read_fraction (chars text.now) }
     ensures rest { IfSome result (λ x. IsTail text.now x.1.now) }
 {
     let bytes = text.as_bytes();
@@ -176,15 +182,17 @@ pub(crate) fn read_fraction(text: &str) -> Option<(Fraction, &str)>
             break;
         }
     }
-    Some((fraction, &text[at..]))
+    Some(((fraction, &text[..at]), &text[at..]))
 }
 
-/// Returns what follows the letters (ASCII, `µ` or `μ`) at the start of the text, or `None` if it begins with another character.
+/// Returns the letters (ASCII, `µ` or `μ`) at the start of the text, if any, and the rest.
 #[inline(always)]
 #[tactic(auto, using(crate::proofs::Offsets::rests))]
-pub(crate) fn skip_word(text: &str) -> Option<&str>
-    ensures read { option_map (λ t. chars t.now) result ≡ reader.skip_word (chars text.now) }
-    ensures rest { IfSome result (λ t. IsTail text.now t.now) }
+pub(crate) fn split_word(text: &str) -> (&str, &str)
+    ensures word { chars result.0.now ≡ take_while is_letter (chars text.now) }
+    ensures read { chars result.1.now ≡ drop_while is_letter (chars text.now) }
+    ensures whole { text.now ≡ result.0.now ++ result.1.now }
+    ensures rest { IsTail text.now result.1.now }
 {
     let bytes = text.as_bytes();
     let mut at = 0;
@@ -198,8 +206,16 @@ pub(crate) fn skip_word(text: &str) -> Option<&str>
             break;
         }
     }
-    // At the end of the text, the word is empty: the caller reports that the unit is missing.
-    (at > 0 || text.is_empty()).then_some(&text[at..])
+    (&text[..at], &text[at..])
+}
+
+/// Returns `true` if a fraction has no digits, and a letter or the end of the text follows its point.
+#[inline(always)]
+#[tactic(auto, using(crate::proofs::Offsets::rests))]
+fn is_bare_point(fraction: Fraction, rest: &str) -> bool
+    ensures { result ≡ (fraction.len == 0 && may_be_word (chars rest.now)) }
+{
+    fraction.len == 0 && (rest.is_empty() || !split_word(rest).0.is_empty())
 }
 
 /// Returns the text after the word of a span, without the whitespace character at its start, if any. Returns `None` if the word may not end
@@ -241,7 +257,7 @@ fn offset_in(text: &str, rest: &str) -> usize
 
 /// Reads the span at the start of `rest`, which is the unread end of `text` and not empty. Offsets are those in `text`.
 #[inline(always)]
-#[tactic(auto, using(crate::proofs::Offsets::offsets), unfolding(crate::specs::Walks::stop_at))]
+#[tactic(auto, using(crate::proofs::Offsets::offsets), unfolding(crate::specs::Walks::fault_at))]
 pub(crate) fn read_span<'a>(text: &'a str, rest: &'a str) -> ReadSpan<'a>
     requires tail { IsTail text.now rest.now }
     requires nonempty { length rest.now ≢ 0 }
@@ -252,65 +268,60 @@ pub(crate) fn read_span<'a>(text: &'a str, rest: &'a str) -> ReadSpan<'a>
     if !begins_with_digit(rest) {
         return Err(DurationError::NumberExpected(offset_in(text, rest)));
     }
-    let Some((value, after_number)) = read_number(rest) else {
+    let Some((number, after_number)) = read_number(rest) else {
         return Err(DurationError::NumberOverflow);
     };
     // `complete_span` is inlined twice, so that a span without a fraction needs no registers for one.
     let Some(after_point) = skip_point(after_number) else {
-        return complete_span(text, rest, value, after_number, None, after_number);
+        return complete_span(text, rest, number, after_number);
     };
     let Some((fraction, after_fraction)) = read_fraction(after_point) else {
         return Err(DurationError::NumberOverflow);
     };
-    let digits = &after_point[..after_point.len() - after_fraction.len()];
-    let fraction = Some((fraction, digits));
-    complete_span(text, rest, value, after_number, fraction, after_fraction)
+    // The error of `1.s~` and of `1.` is at the point, but that of `1.~` at the `~`.
+    if is_bare_point(fraction.0, after_fraction) {
+        return Err(DurationError::InvalidCharacter(offset_in(text, after_number)));
+    }
+    let number = Number {
+        text: number.text,
+        value: number.value,
+        fraction: Some(fraction),
+    };
+    complete_span(text, rest, number, after_fraction)
 }
 
-/// Reads the unit after a number and its fraction, if any, and returns the result of [`read_span`]. The value and the fraction were read from
-/// the start of `rest`, and are followed by `after_number` and `after_fraction`, which are the same if there is no point.
+/// Reads the unit after a number and its fraction, if any, and returns the result of [`read_span`]. The number was read from the start of
+/// `rest`, and `after_digits` follows it and its fraction.
 #[inline(always)]
-#[tactic(auto, using(crate::proofs::SpanParts::spans), unfolding(crate::specs::Walks::stop_at))]
+#[tactic(auto, using(crate::proofs::SpanParts::spans), unfolding(crate::specs::Walks::fault_at))]
 fn complete_span<'a>(
     text: &'a str,
     rest: &'a str,
-    value: u64,
-    after_number: &'a str,
-    fraction: Option<(Fraction, &'a str)>,
-    after_fraction: &'a str,
+    number: Number<'a>,
+    after_digits: &'a str,
 ) -> ReadSpan<'a>
     requires tail { IsTail text.now rest.now }
-    requires parts { HasRead rest.now value after_number.now fraction after_fraction.now }
+    requires number { IsNumberAt rest.now number after_digits.now }
     ensures read { span_result result ≡ reader.read_span (chars text.now) (chars rest.now) }
     ensures rest { IfOk result (λ x. IsTail text.now x.1.now) }
     ensures places { MatchResult result (λ x. IsRangeIn text.now x.0.start x.0.end) (PointsInto text.now) }
 {
-    let Some(after_word) = skip_word(after_fraction) else {
-        return Err(DurationError::InvalidCharacter(offset_in(text, after_fraction)));
-    };
-    // The error of `1.~` is at the `~`, but that of `1.s~` and of `1.` at the point. So this is tested after `skip_word`.
-    if fraction.is_some_and(|(digits, _)| digits.len == 0) {
-        return Err(DurationError::InvalidCharacter(offset_in(text, after_number)));
-    }
+    let (unit, after_word) = split_word(after_digits);
     // `1foo~` is wrong at the `~`, so what follows the word is tested before the word.
     let Some(after_span) = skip_span_end(after_word) else {
         return Err(DurationError::InvalidCharacter(offset_in(text, after_word)));
     };
-    let unit = &after_fraction[..after_fraction.len() - after_word.len()];
     let end = offset_in(text, after_word);
     let Some(scale) = scale_of(unit) else {
         return Err(DurationError::UnknownUnit {
-            start: offset_in(text, after_fraction),
+            start: offset_in(text, after_digits),
             end,
             unit,
-            value,
+            value: number.value,
         });
     };
     let span = Span {
-        // The methods of `Span` trim this slice and that of the fraction.
-        number: &rest[..rest.len() - after_number.len()],
-        value,
-        fraction,
+        number,
         unit,
         scale,
         start: offset_in(text, rest),

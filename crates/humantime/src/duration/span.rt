@@ -1,12 +1,25 @@
 //! [`Span`]: a number with its fraction, if any, and its unit, as read from a string.
 
-ghost use Rattle.std.specs.Prelude.{◌≡◌, ◌≤◌, option_map, chars};
+ghost use Rattle.std.specs.Prelude.{◌≡◌, ◌≤◌, Some, option_map, chars};
 ghost use Rattle.std.specs.Option.{ForSome};
 ghost use Rattle.humantime.specs.Characters.{max_fraction_digits};
-ghost use Rattle.humantime.specs.StepsOfParts.{IsAmountRead};
+ghost use Rattle.humantime.specs.Durations.{scale_of_word};
+ghost use Rattle.humantime.specs.StepsOfParts.{IsNumberRead};
 
 use crate::duration::digits::Fraction;
 use crate::unit::Scale;
+
+/// The number of a span with its fraction, if any.
+#[derive(Clone, Copy, Debug)]
+pub(crate) struct Number<'a> {
+    /// The digits, with the whitespace between and after them.
+    pub text: &'a str,
+    pub value: u64,
+    /// The fraction and its digits, with the whitespace around them, or `None` if there is no point.
+    pub fraction: Option<(Fraction, &'a str)>,
+    ghost few: { ForSome fraction (λ f. f.0.exponent ≤ max_fraction_digits) },
+    ghost read: { IsNumberRead text.now value fraction },
+}
 
 /// A number with its fraction, if any, and its unit, borrowed from a string.
 ///
@@ -26,17 +39,12 @@ use crate::unit::Scale;
 /// ```
 #[derive(Clone, Copy, Debug)]
 pub struct Span<'a> {
-    /// The digits of the number, with the whitespace between and after them.
-    pub(crate) number: &'a str,
-    pub(crate) value: u64,
-    /// The fraction and its digits, with the whitespace around them, or `None` if there is no point.
-    pub(crate) fraction: Option<(Fraction, &'a str)>,
+    pub(crate) number: Number<'a>,
     pub(crate) unit: &'a str,
     pub(crate) scale: &'static Scale,
     pub(crate) start: usize,
     pub(crate) end: usize,
-    ghost few: { ForSome fraction (λ f. f.0.exponent ≤ max_fraction_digits) },
-    ghost read: { IsAmountRead number.now value fraction unit.now scale.now },
+    ghost read: { scale_of_word (chars unit.now) ≡ Some scale.now },
 }
 
 impl<'a> Span<'a> {
@@ -58,7 +66,7 @@ impl<'a> Span<'a> {
     pub fn number(&self) -> &'a str
         ensures { chars result.now ≡ (span_view self.now).number }
     {
-        self.number.trim_end()
+        self.number.text.trim_end()
     }
 
     /// Returns the fraction as written in the string, from its first to its last digit, or `None` if there is no decimal point.
@@ -77,7 +85,7 @@ impl<'a> Span<'a> {
     pub fn fraction(&self) -> Option<&'a str>
         ensures { option_map (λ t. chars t.now) result ≡ (span_view self.now).fraction }
     {
-        Some(self.fraction?.1.trim_start().trim_end())
+        Some(self.number.fraction?.1.trim_start().trim_end())
     }
 
     /// Returns the unit as written in the string.
@@ -141,6 +149,6 @@ impl<'a> Span<'a> {
     pub fn value(&self) -> u64
         ensures { result ≡ (span_view self.now).value }
     {
-        self.value
+        self.number.value
     }
 }

@@ -4,7 +4,7 @@ use Rattle.std.proofs.Common.{◌≡◌, ◌+◌, ◌++◌, ◌∷◌, [], get_o
 use Rattle.humantime.specs.Characters.{begins, is_numeric, without_trailing_zeros}
 use Rattle.humantime.specs.DurationErrors.{number_of}
 use Rattle.humantime.proofs.SpanParts.{read_digit, read_whitespace, stops_here}
-use Rattle.humantime.proofs.Offsets.{starts, no_chars_at}
+use Rattle.humantime.proofs.Offsets.{front_is, no_chars_at, starts}
 use Rattle.humantime.proofs.duration.scan.read_fraction.Goals as goal
 use Rattle.humantime.proofs.duration.scan.read_fraction.Goals.{else-loop-at-test, then-loop-at-test+else-is_ascii_digit+in_default}
 
@@ -37,4 +37,5 @@ pub returns-clause-read : goal.returns-clause-read
 returns-clause-read c =
     let i = c.loop-at.invariant in
     let ended : begins is_numeric (chars (drop c.loop-at.at c.args.text.now)) ≡ false = grind (arith, else-loop-at-test, then-loop-at-test+else-is_ascii_digit+in_default, no_chars_at, stops_here) in
-    grind (arith, common_steps, nat_tests, ended, append-nil, i.read, i.digits.parts, i.digits.few)
+    let front = front_is is_numeric c.args.text.now c.loop-at.at c.utf8.text i.read.place in
+    grind (arith, common_steps, nat_tests, ended, append-nil, front, i.read, i.digits.parts, i.digits.few)

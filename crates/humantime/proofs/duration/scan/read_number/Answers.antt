@@ -1,10 +1,11 @@
 use Rattle.std.proofs.lemmas.Bool.Decides.{nat_tests}
+use Rattle.std.proofs.lemmas.Grind.{common_steps}
 use Rattle.std.proofs.lemmas.Str.{digit_value_digit}
 use Rattle.std.proofs.Common.{◌≡◌, chars, drop, false, arith}
 use Rattle.humantime.specs.Characters.{begins, is_numeric}
 use Rattle.humantime.proofs.Characters.{digit_is}
 use Rattle.humantime.proofs.SpanParts.{other_left, first_digit, digit_left, digit_range, read_digit, read_whitespace, stops_here, value_grows}
-use Rattle.humantime.proofs.Offsets.{starts, no_chars_at}
+use Rattle.humantime.proofs.Offsets.{front_is, no_chars_at, starts}
 use Rattle.humantime.proofs.duration.scan.read_number.Goals as goal
 use Rattle.humantime.proofs.duration.scan.read_number.Goals.{else-loop-at-test, then-loop-at-test+else-digit-le9+in_default}
 
@@ -26,7 +27,14 @@ pub returns-in_err-value-clause-read : goal.returns-in_err-value-clause-read
 returns-in_err-value-clause-read c =
     grind (arith, nat_tests, (read_digit c.args.text.now c.loop-at.at c.utf8.text), (digit_left _ (c.loop-at.invariant.bytes c.loop-at.at) c.if-digit-le9.true), value_grows)
 
+pub invariant_of-number-clause-read : goal.invariant_of-number-clause-read
+invariant_of-number-clause-read c =
+    let ended : begins is_numeric (chars (drop c.loop-at.at c.args.text.now)) ≡ false = grind (arith, else-loop-at-test, then-loop-at-test+else-digit-le9+in_default, no_chars_at, other_left, stops_here) in
+    let front = front_is is_numeric c.args.text.now c.loop-at.at c.utf8.text c.loop-at.invariant.place in
+    grind (arith, common_steps, nat_tests, ended, front, c.loop-at.invariant)
+
 pub returns-clause-read : goal.returns-clause-read
 returns-clause-read c =
     let ended : begins is_numeric (chars (drop c.loop-at.at c.args.text.now)) ≡ false = grind (arith, else-loop-at-test, then-loop-at-test+else-digit-le9+in_default, no_chars_at, other_left, stops_here) in
-    grind (arith, nat_tests, ended, c.loop-at.invariant)
+    let front = front_is is_numeric c.args.text.now c.loop-at.at c.utf8.text c.loop-at.invariant.place in
+    grind (arith, common_steps, nat_tests, ended, front, c.loop-at.invariant)
