@@ -1,6 +1,5 @@
 -- Classes of characters, the longest runs of a class, and the value of digits.
-use Rattle.std.specs.Prelude.{◌&&◌, ◌||◌, ◌==◌, nat_le}
-use Rattle.std.proofs.Common.{◌≡◌, ◌≤◌, ◌<◌, ℕ, true, false, refl, sym, ◌∙◌, arith, ◌≢◌, Bool, List, [], ◌∷◌, ◌++◌, length, ap, inl, inr, length-append, ◌+◌, ◌*◌, ◌/◌, ◌%◌, ◌^◌, append_assoc, reverse}
+use Rattle.std.proofs.Common.{◌≡◌, ◌≤◌, ◌<◌, ℕ, true, false, refl, sym, ◌∙◌, arith, ◌≢◌, Bool, List, [], ◌∷◌, ◌++◌, length, ap, inl, inr, length-append, ◌+◌, ◌*◌, ◌/◌, ◌%◌, ◌^◌, append_assoc, reverse, ◌&&◌, ◌||◌, ◌==◌, nat_le}
 use Rattle.std.specs.Char.{is_whitespace as std_is_whitespace, is_ascii_digit, digit_value}
 use Rattle.std.proofs.lemmas.Bool.{or_left, or_right, cases_Bool}
 use Rattle.std.proofs.lemmas.Bool.Decides.{nat_tests}
@@ -51,9 +50,6 @@ digit_is_numeric c = or_left (is_digit c) (is_whitespace c)
 
 pub whitespace_is_numeric : (c : ℕ) → is_whitespace c ≡ true → is_numeric c ≡ true
 whitespace_is_numeric c = or_right (is_digit c) (is_whitespace c)
-
-pub digit_from_numeric : (c : ℕ) → is_numeric c ≡ true → is_whitespace c ≡ false → is_digit c ≡ true
-digit_from_numeric c n w = grind arith
 
 -- ---- by bytes
 

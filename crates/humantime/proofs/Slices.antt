@@ -1,12 +1,11 @@
 -- What a span borrows from its text.
 use Rattle.std.proofs.lemmas.Grind.{common_steps}
-use Rattle.std.proofs.Common.{◌≡◌, ℕ, Bool, true, false, ◌&&◌, cond, eqb, List, [], ◌∷◌, ◌++◌, length, Some, None, ◌⊎◌, inl, refl, sym, ap, ◌∙◌, append-nil, arith, IsUtf8, chars, Option, ap₂, ◌≢◌, subst, ◌<◌}
+use Rattle.std.proofs.Common.{append_assoc, ◌≡◌, ℕ, Bool, true, false, ◌&&◌, cond, eqb, List, [], ◌∷◌, ◌++◌, length, Some, None, refl, sym, ap, ◌∙◌, arith, IsUtf8, chars, Option, ap₂, ◌≢◌, subst, ◌<◌}
 use Rattle.std.specs.Char.{is_whitespace as std_is_whitespace}
 use Rattle.std.specs.Str.{trim_start, trim_end, skip_leading_whitespace, drop_trailing_whitespace}
 use Rattle.std.proofs.lemmas.Str.{encodes-chars, encodes_same, encodes-append, length-le-encodes}
 use Rattle.std.proofs.lemmas.Bool.Decides.{nat_tests}
-pub use Rattle.std.proofs.Math.Dec.{eqb-suc-zero as suc_not_zero}
-use Rattle.std.proofs.lemmas.List.Elements.{filter-append}
+use Rattle.std.proofs.Math.Dec.{eqb-suc-zero as suc_not_zero}
 use Rattle.std.proofs.Math.Bool.{and-false}
 use Rattle.std.proofs.lemmas.List.{append_cancel_left}
 use Rattle.humantime.specs.Characters.{begins, ends, drop_while, take_while, is_whitespace, is_digit, is_letter, is_numeric, digits, is_point, byte_length, offset_of}
@@ -14,41 +13,24 @@ use Rattle.humantime.specs.Durations.{HasOnly, SpelledSpan, SpellsFraction}
 use Rattle.humantime.specs.DurationErrors.{span_of, after_number, after_fraction, fraction_of, word_of, after_word, BeginsSpan}
 use Rattle.humantime.specs.DurationResults.{trimmed, fraction_slice, view_at, spelled, number_slice}
 use Rattle.humantime.specs.Items.{IsDigitSlice, SpanView, IsFractionView, IsSpanView, AreSpanViews}
-use Rattle.humantime.proofs.Characters.{whitespace_is, whitespace_not_digit, digit_from_numeric, letter_not_whitespace, take_while-append, digit_not_whitespace, drop_while-append, digit_is_numeric, take_while-drop_while, take_while-only, begins-drop_while, begins_take_while}
+use Rattle.humantime.proofs.Characters.{whitespace_is, whitespace_not_digit, letter_not_whitespace, take_while-append, digit_not_whitespace, drop_while-append, digit_is_numeric, ends-append, take_while-drop_while, take_while-only, begins_take_while}
 use Rattle.humantime.proofs.Spellings.{begins_word, read_spelled, next_of, spells-append, written_here}
 
 -- ==== Slices without leading and trailing whitespace.
 
--- `ds` is `cs` without trailing whitespace.
-pub record Dropped (cs ds : List ℕ) : Type 0 where
-  pub tail : List ℕ
-  pub whole : cs ≡ ds ++ tail
-  pub whitespace : HasOnly is_whitespace tail
-  pub last : (ds ≡ []) ⊎ (ends is_whitespace ds ≡ false)
-
-pub dropped : (cs : List ℕ) → Dropped cs (drop_trailing_whitespace cs)
-dropped [] = record { tail = []; whole = refl; whitespace = tt; last = inl refl }
-dropped (c ∷ cs) = by (std_is_whitespace c) (drop_trailing_whitespace cs) refl (dropped cs)
-  where
-    by : (w : Bool) (ds : List ℕ) → std_is_whitespace c ≡ w → Dropped cs ds → Dropped (c ∷ cs) (cond (w && eqb (length ds) 0) [] (c ∷ ds))
-    by true [] e d = record { tail = c ∷ d.tail; whole = ap (c ∷◌) d.whole; whitespace = (sym (whitespace_is c) ∙ e, d.whitespace); last = inl refl }
-    by true (x ∷ xs) e d = rw (suc_not_zero (length xs)) (record { tail = d.tail; whole = ap (c ∷◌) d.whole; whitespace = d.whitespace; last = grind arith })
-    by false ds e d = record { tail = d.tail; whole = ap (c ∷◌) d.whole; whitespace = d.whitespace; last = grind (arith, whitespace_is) }
-
-digits_of_whitespace : (cs : List ℕ) → HasOnly is_whitespace cs → digits cs ≡ []
-digits_of_whitespace [] o = refl
-digits_of_whitespace (c ∷ cs) o = rw (whitespace_not_digit c o.0) (digits_of_whitespace cs o.1)
-
-digits_dropped : (cs ds : List ℕ) → Dropped cs ds → digits ds ≡ digits cs
-digits_dropped cs ds d = sym (ap digits d.whole ∙ filter-append is_digit ds d.tail ∙ ap (digits ds ++◌) (digits_of_whitespace d.tail d.whitespace) ∙ append-nil (digits ds))
-
-pub digits_drop_while : (cs : List ℕ) → digits (drop_while is_whitespace cs) ≡ digits cs
-digits_drop_while [] = refl
-digits_drop_while (c ∷ cs) = grind (arith, (digits_drop_while cs), whitespace_not_digit)
-
 -- Trimming keeps the digits.
 pub digits_kept : (cs : List ℕ) → digits (drop_trailing_whitespace cs) ≡ digits cs
-digits_kept cs = digits_dropped cs (drop_trailing_whitespace cs) (dropped cs)
+digits_kept [] = refl
+digits_kept (c ∷ cs) = by (std_is_whitespace c) (drop_trailing_whitespace cs) refl (digits_kept cs)
+  where
+    by : (w : Bool) (ds : List ℕ) → std_is_whitespace c ≡ w → digits ds ≡ digits cs → digits (cond (w && eqb (length ds) 0) [] (c ∷ ds)) ≡ digits (c ∷ cs)
+    by true [] e d = grind (arith, whitespace_is, whitespace_not_digit)
+    by true (x ∷ xs) e d = rw (suc_not_zero (length xs)) (grind arith)
+    by false ds e d = grind arith
+
+digits_drop_while : (cs : List ℕ) → digits (drop_while is_whitespace cs) ≡ digits cs
+digits_drop_while [] = refl
+digits_drop_while (c ∷ cs) = grind (arith, (digits_drop_while cs), whitespace_not_digit)
 
 pub digits_trimmed : (cs : List ℕ) → digits (trimmed cs) ≡ digits cs
 digits_trimmed cs = digits_kept (drop_while is_whitespace cs) ∙ digits_drop_while cs
@@ -56,20 +38,6 @@ digits_trimmed cs = digits_kept (drop_while is_whitespace cs) ∙ digits_drop_wh
 -- The slices represent the span that they are taken from.
 pub spelled_at : (text rest : List ℕ) → spelled (view_at text rest).number (view_at text rest).fraction (view_at text rest).unit ≡ span_of rest
 spelled_at text rest = grind (arith, common_steps, digits_kept, digits_trimmed)
-
-ends_digit : (x : ℕ) (xs : List ℕ) → HasOnly is_numeric (x ∷ xs) → ends is_whitespace (x ∷ xs) ≡ false → ends is_digit (x ∷ xs) ≡ true
-ends_digit x [] o e = digit_from_numeric x o.0 e
-ends_digit x (y ∷ ys) o e = ends_digit y ys o.1 e
-
-only_front : (p : ℕ → Bool) (xs ys : List ℕ) → HasOnly p (xs ++ ys) → HasOnly p xs
-only_front p [] ys o = tt
-only_front p (x ∷ xs) ys o = (o.0, only_front p xs ys o.1)
-
--- The slice of digits and whitespace that begins with a digit, without trailing whitespace, after other whitespace.
-pub digit_slice : (before cs ds : List ℕ) → Dropped cs ds → HasOnly is_whitespace before → begins is_digit cs ≡ true → HasOnly is_numeric cs
-    → IsDigitSlice (before ++ cs) ds
-digit_slice before cs [] d w b o = grind (arith, whitespace_not_digit)
-digit_slice before cs (x ∷ xs) d w b o = grind (arith, only_front, ends_digit)
 
 -- There is no slice of a fraction if a letter follows the number.
 pub no_slice : (tail : List ℕ) → begins is_letter tail ≡ true → fraction_slice tail ≡ None
@@ -94,7 +62,7 @@ pub start_trimmed : (text cut : List ℕ) → IsUtf8 cut → cut ≡ trim_start 
 unfolding trim_start
 start_trimmed text cut u e = encodes_same (chars cut) (skip_leading_whitespace (chars text)) (encodes-chars cut u ∙ e) ∙ skipped (chars text)
 
--- ==== The view of a span is determined by the text and the span.
+-- ==== Digits and whitespace, with at least one digit, have one slice from the first to the last digit.
 
 drop_whitespace : (cs : List ℕ) → HasOnly is_whitespace cs → drop_trailing_whitespace cs ≡ []
 drop_whitespace [] o = refl
@@ -109,6 +77,37 @@ drop_tail (x ∷ y ∷ xs) tail o e = rw (drop_tail (y ∷ xs) tail o e, suc_not
 -- A text without leading and trailing whitespace goes from its first to its last digit.
 trimmed_is : (text slice : List ℕ) → IsDigitSlice text slice → trimmed text ≡ slice
 trimmed_is text slice h = grind (arith, digit_not_whitespace, drop_while-append, drop_tail)
+
+only_whitespace : (cs : List ℕ) → HasOnly is_numeric cs → digits cs ≡ [] → HasOnly is_whitespace cs
+only_whitespace [] only none = tt
+only_whitespace (c ∷ cs) only none = grind (arith, (only_whitespace cs only.1))
+
+has_slice : (cs : List ℕ) → HasOnly is_numeric cs → digits cs ≢ [] → (slice : List ℕ) × IsDigitSlice cs slice
+has_slice [] only some = absurd (some refl)
+has_slice (c ∷ cs) only some = by (is_digit c) (digits cs) refl refl (has_slice cs only.1)
+  where
+    by : (digit : Bool) (more : List ℕ) → is_digit c ≡ digit → digits cs ≡ more → (digits cs ≢ [] → (slice : List ℕ) × IsDigitSlice cs slice)
+        → (slice : List ℕ) × IsDigitSlice (c ∷ cs) slice
+    by true [] d e s = (c ∷ [], record { before = []; after = cs; whole = refl; only_before = tt; only_after = only_whitespace cs only.1 e; first_digit = d; last_digit = d })
+    by true (x ∷ xs) d e s =
+        let k = s (λ n. cc) in
+        let last = ends-append is_digit (c ∷ k.1.before) k.0 (λ n. let first = rw n at k.1.first_digit in cc) ∙ k.1.last_digit in
+        let whole = ap (c ∷◌) (k.1.whole ∙ sym (append_assoc k.1.before k.0 k.1.after)) in
+        (c ∷ (k.1.before ++ k.0), record { before = []; after = k.1.after; whole = whole; only_before = tt; only_after = k.1.only_after; first_digit = d; last_digit = last })
+    by false more d e s =
+        let k = s (λ n. some (grind arith)) in
+        (k.0, record { before = c ∷ k.1.before; after = k.1.after; whole = ap (c ∷◌) k.1.whole; only_before = (grind arith, k.1.only_before); only_after = k.1.only_after; first_digit = k.1.first_digit; last_digit = k.1.last_digit })
+
+trimmed_slice : (cs : List ℕ) → HasOnly is_numeric cs → digits cs ≢ [] → IsDigitSlice cs (trimmed cs)
+trimmed_slice cs only some = let s = has_slice cs only some in rw (trimmed_is cs s.0 s.1) (s.1)
+
+-- The same of a text that begins with a digit.
+number_is_viewed : (cs : List ℕ) → HasOnly is_numeric cs → begins is_digit cs ≡ true → IsDigitSlice cs (drop_trailing_whitespace cs)
+number_is_viewed cs only d =
+    let same : trimmed cs ≡ drop_trailing_whitespace cs = grind (arith, digit_not_whitespace) in
+    rw same at (trimmed_slice cs only (λ none. grind arith))
+
+-- ==== The view of a span is determined by the text and the span.
 
 fraction_found : (b tail : List ℕ) (o f : Option (List ℕ)) → SpellsFraction b o → IsFractionView b f → begins is_letter tail ≡ true → f ≡ fraction_slice (b ++ tail)
 fraction_found b tail (Some ds) (Some slice) h k e = grind (arith, (slice_after_point h.0 tail h.2.0 e), (trimmed_is k.0 slice k.2))
@@ -141,19 +140,6 @@ one_view_each text p q m n spans xs ys d e o u w h k = grind arith
 
 -- ==== The view of the span at the start of a rest.
 
-drop_while-only : (p q : ℕ → Bool) (cs : List ℕ) → HasOnly p cs → HasOnly p (drop_while q cs)
-drop_while-only p q [] o = tt
-drop_while-only p q (c ∷ cs) o = grind (arith, (drop_while-only p q cs o.1))
-
--- Digits and whitespace that do not begin with whitespace begin with a digit.
-begins_digit_or_end : (cs : List ℕ) → HasOnly is_numeric cs → begins is_whitespace cs ≡ false → digits cs ≢ [] → begins is_digit cs ≡ true
-begins_digit_or_end cs h k e = grind arith
-
--- Digits and whitespace, with at least one digit, have a slice from the first to the last digit.
-trimmed_slice : (cs : List ℕ) → HasOnly is_numeric cs → digits cs ≢ [] → IsDigitSlice cs (trimmed cs)
-trimmed_slice cs o n =
-    grind (arith, (digit_slice (take_while is_whitespace cs) (drop_while is_whitespace cs) (trimmed cs) (dropped (drop_while is_whitespace cs)) (take_while-only is_whitespace cs)), drop_while-only, begins_digit_or_end, begins-drop_while, digits_drop_while, take_while-drop_while)
-
 fraction_is_viewed : (b tail : List ℕ) (o : Option (List ℕ)) → SpellsFraction b o → begins is_letter tail ≡ true → IsFractionView b (fraction_slice (b ++ tail))
 fraction_is_viewed b tail o h k = grind (arith, no_slice, slice_after_point, trimmed_slice)
 
@@ -170,7 +156,7 @@ is_span_view text rest f =
     let after = h.whitespace ++ next_of rest in
     let r = read_spelled rest (next_of rest) (span_of rest) h in
     let starts = begins_take_while is_digit is_numeric rest f.number.digit digit_is_numeric in
-    let number = digit_slice [] (take_while is_numeric rest) (number_slice rest) (dropped (take_while is_numeric rest)) tt starts (take_while-only is_numeric rest) in
+    let number = number_is_viewed (take_while is_numeric rest) (take_while-only is_numeric rest) starts in
     let fraction = fraction_is_viewed h.fraction_text (word_of rest ++ after) (fraction_of rest) h.fraction (begins_word (word_of rest) after (grind arith)) in
     record {
       spelled = h;

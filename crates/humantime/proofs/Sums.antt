@@ -1,9 +1,8 @@
 -- The sum of spans, and whether it is within the limits.
 use Rattle.std.proofs.lemmas.Bool.Decides.{nat_tests}
 use Rattle.std.proofs.lemmas.Grind.{common_steps}
-use Rattle.std.proofs.Common.{◌≡◌, ℕ, ◌+◌, ◌/◌, ◌≤◌, true, List, [], ◌∷◌, ◌++◌, Some, None, refl, arith, append_assoc, ◌⊎◌, Option, Result, Ok, Err, map}
-use Rattle.std.specs.Prelude.{Bool, ◌&&◌, if◌then◌else◌, option_map, unwrap_or, ⊤}
-use Rattle.std.specs.Bool.{Decides}
+use Rattle.std.proofs.Common.{◌≡◌, ℕ, ◌+◌, ◌/◌, ◌≤◌, true, List, [], ◌∷◌, ◌++◌, Some, None, refl, arith, append_assoc, ◌⊎◌, Option, Result, Ok, Err, map, Bool, ◌&&◌, if◌then◌else◌, option_map, unwrap_or, Decides}
+use Rattle.std.specs.Prelude.{⊤}
 use Rattle.std.proofs.lemmas.List.Sums.{sum_by_push, sum_by-append}
 use Rattle.std.specs.List.{AllByRecursion}
 use Rattle.humantime.specs.Values.{nanos_per_second}
@@ -22,7 +21,6 @@ room_from t (x ∷ xs) = has_room t x && room_from (t + quantity_nanos x) xs
 
 -- The sum if no addition overflows, and `None` otherwise.
 pub add_all-is : (t : ℕ) (xs : List Quantity) → add_all t xs ≡ (if room_from t xs then Some (t + total xs) else None)
-unfolding add_all
 add_all-is t [] = grind arith
 add_all-is t (x ∷ xs) = grind (arith, common_steps, (add_all-is (t + quantity_nanos x) xs))
 

@@ -1,10 +1,8 @@
 -- The unit of a word by its bytes.
 use Rattle.std.proofs.lemmas.Bool.Decides.{nat_tests}
-use Rattle.std.proofs.Common.{◌⊎◌, ◌+◌, ◌<◌, ◌≡◌, ◌∙◌, ◌≤◌, ap, refl, ℕ, zero, suc, Bool, true, ◌&&◌, List, [], ◌∷◌, ◌++◌, length, get_or, ltb, Option, Some, None, chars, arith}
-use Rattle.std.specs.Prelude.{◌==◌, bytes_eq, if◌then◌else◌}
+use Rattle.std.proofs.Common.{◌⊎◌, ◌+◌, ◌<◌, ◌≡◌, ◌∙◌, ◌≤◌, ap, refl, ℕ, zero, suc, Bool, true, ◌&&◌, List, [], ◌∷◌, ◌++◌, length, get_or, ltb, Option, Some, None, chars, arith, ◌==◌, bytes_eq, if◌then◌else◌, IsUtf8}
 use Rattle.std.specs.List.{list_all}
 use Rattle.std.specs.Map.{lookup}
-use Rattle.std.specs.Str.{IsUtf8}
 use Rattle.std.proofs.Math.Utf8.{encode, encodes, scalars}
 use Rattle.std.proofs.lemmas.Bool.{and_parts, ltb-true}
 use Rattle.std.proofs.lemmas.Slice.Eq.{bytes_eq-Decides}

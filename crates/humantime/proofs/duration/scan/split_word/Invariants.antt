@@ -1,5 +1,4 @@
-use Rattle.std.proofs.Common.{◌≡◌, ◌-◌, length, drop, IsCharBoundary}
-use Rattle.std.specs.Str.{chars}
+use Rattle.std.proofs.Common.{◌≡◌, ◌-◌, length, drop, IsCharBoundary, chars}
 use Rattle.humantime.specs.Characters.{drop_while, is_letter}
 use Rattle.humantime.proofs.duration.scan.split_word.Given as goal
 
