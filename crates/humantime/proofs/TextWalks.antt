@@ -194,8 +194,7 @@ read_all : (text : List ℕ) → ReadsOn text (drop_while is_whitespace text) (w
 read_all text = by_walk text (ReadsOn text) (reads_on text) (drop_while is_whitespace text)
 
 -- The items of a text, and the rest after them.
-pub items_found_at : (text : List ℕ) → (i : Items text (items text).0 (items text).1) × (i.rest ≡ (walk_of text).rest)
-unfolding items
+pub items_found_at : (text : List ℕ) → let w = walk_of text in (i : Items text (map span_of w.starts) (stop_at (length w.starts == 0) text w.rest)) × (i.rest ≡ w.rest)
 items_found_at text =
     let r = (read_all text (take_while is_whitespace text) [] (begun text)).0 in
     let e = by_walk text _ (stopped text) (drop_while is_whitespace text) in
@@ -203,6 +202,7 @@ items_found_at text =
     (record { front = r.0; rest = (walk_of text).rest; split = r.1.split; formed = r.1.formed; ends = ends }, refl)
 
 pub items_found : (text : List ℕ) → Items text (items text).0 (items text).1
+unfolding items
 items_found text = (items_found_at text).0
 
 -- If the spans of a text break a limit, its fault is an overflow.
