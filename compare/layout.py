@@ -1,7 +1,7 @@
 """Builds the library and the Rust crate into one program, for compare/bench and compare/diff.
 
 Both are built only from this repository, the kit, cargo and the folder of the crate, in another folder. There the library is proved
-and built as a static library with one C function for each call (src/exports.rt.txt).
+and built as a static library with C functions for the calls (src/exports.rt.txt).
 """
 import argparse
 import contextlib

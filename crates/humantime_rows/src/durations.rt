@@ -108,7 +108,7 @@ pub(crate) fn split<W: fmt::Write>(f: &mut Formatter<W>, text: &str) -> fmt::Res
     write!(f, "{first:?}, {second:?}, {third:?}")
 }
 
-/// Writes the number, the fraction and the unit of a span, its offsets and its value.
+/// Writes the number, the fraction and the unit of a span with their whitespace as it is, its offsets and its value.
 fn write_span<W: fmt::Write>(f: &mut Formatter<W>, span: Span<'_>) -> fmt::Result {
     let copy = span;
     write!(f, "Ok((\"{}\", ", copy.number())?;
