@@ -316,7 +316,7 @@ fn locate(text: &str, error: TimestampError, strict: bool) -> Located<TimestampE
 }
 
 /// Returns the range of a timestamp's error.
-#[tactic(auto, using(crate::proofs::Inside::fit_inside))]
+#[tactic(auto, using(crate::proofs::Inside::fit_inside, crate::proofs::Inside::timestamp_inside))]
 fn error_range(text: &str, error: TimestampError, strict: bool) -> (usize, usize)
     ensures place { result ≡ spec.error_range strict text.now error }
     ensures range { IsRangeIn text.now result.0 result.1 }
