@@ -22,7 +22,7 @@ use toml_parser::{ParseError, quoted, starts_string};
 /// whose keys sort first has the error. The position is
 ///
 /// - in a string or a key that is no duration or timestamp: what is wrong in it;
-/// - of another wrong value, or of an unknown key: its start;
+/// - of another wrong value, or of an unknown or a duplicate key: its start;
 /// - of a missing key: the start of its table. This is its header or its brace, or the first key that makes it, and of the table at the top
 ///   the start of the document.
 ///
@@ -140,12 +140,9 @@ fn fault_of<T: DeserializeOwned>(
     keys: &str,
 ) -> Result<Option<Fault>, ParseError> {
     let json = as_json(alloc, text)?;
-    let error = match serde_json::from_str::<Owned<T>>(alloc, &json) {
-        Ok(_) => return Ok(None),
-        Err(error) if error.is_memory() => return Err(ParseError::OutOfMemory),
-        Err(error) => error,
+    let Some(at) = error_in::<T>(alloc, &json)? else {
+        return Ok(None);
     };
-    let at = offset_of(&json, &error);
     if said == "invalid value" && matches!(json.get(at..at.saturating_add(2)), Some("{}" | "[]")) {
         // TOML has these for a variant without data.
         return Ok(None);
@@ -156,7 +153,9 @@ fn fault_of<T: DeserializeOwned>(
         // It is the array that has an item too many.
         path.pop();
     }
-    let is_key = matches!((path.last(), token), (Some(Step::Key(..)), Token::Key(_)));
+    // A field that stands twice can be read up to the end of its second value.
+    let is_key = said.starts_with("duplicate field")
+        || matches!((path.last(), token), (Some(Step::Key(..)), Token::Key(_)));
     let Some(steps) = steps_to(alloc, &path, is_key, said, keys)? else {
         return Ok(None);
     };
@@ -166,6 +165,15 @@ fn fault_of<T: DeserializeOwned>(
     };
     let is_key = is_key || said.starts_with(NO_VARIANT);
     Ok(Some(fault_at(alloc, text, said, place, is_key)?))
+}
+
+/// Returns the offset of the error of a value in JSON, if it is not of this type.
+fn error_in<T: DeserializeOwned>(alloc: Global, json: &str) -> Result<Option<usize>, AllocError> {
+    match serde_json::from_str::<Owned<T>>(alloc, json) {
+        Ok(_) => Ok(None),
+        Err(error) if error.is_memory() => Err(AllocError),
+        Err(error) => Ok(Some(offset_of(json, &error))),
+    }
 }
 
 /// Returns the values of a document in JSON, with another number in place of `inf`, `nan` and any that can be too large for JSON.

@@ -11,6 +11,7 @@ use std::test::Fail;
 #[derive(Debug, Drop, Deserialize)]
 #[serde(deny_unknown_fields)]
 struct Job {
+    #[serde(alias = "label")]
     name: String,
     #[serde(with = "humantime_settings")]
     every: StdDuration,
@@ -22,7 +23,7 @@ struct Job {
 
 #[derive(Debug, Drop, Deserialize)]
 struct Jobs {
-    #[serde(with = "humantime_settings")]
+    #[serde(alias = "limit", with = "humantime_settings")]
     timeout: StdDuration,
     job: Job,
     more: Option<Vec<Job>>,
@@ -86,6 +87,7 @@ const JSON: &[Case<'static>] = &[
     ("{\"timeout\":\"2h\",\n \"timeout\" :\n\"2h\"}", 2, 2, "", "duplicate field `timeout`"),
     ("{\"timeout\":\"2h\",\"time\\u006fut\":\"\\\"\"}", 1, 17, "", "duplicate field `timeout`"),
     // A field that stands twice, whose value is read first or not, and is a string, a list or a map.
+    (r#"{"limit":"1s","timeout":"2h"}"#, 1, 15, "", "duplicate field `timeout`"),
     (r#"{"job":{"name":"a","name":"b"}}"#, 1, 20, "", "duplicate field `name`"),
     (r#"{"waits":["1s"],"waits":["2s"]}"#, 1, 17, "", "duplicate field `waits`"),
     (r#"{"ends":{},"ends":{"a":"2018-02-14 00:28:07"}}"#, 1, 12, "", "duplicate field `ends`"),
@@ -181,6 +183,9 @@ const TOML: &[Case<'static>] = &[
     ("timeout = '2h'\n'more.every' = '1~'\nJOB\n[[more]]\nname = 'a'\nevery = '1~'\nsince = '2018-02-14 00:28:07'\n", 9, 11, "~", "invalid character at 1"),
     // Keys whose texts are the same without the dot.
     ("time.out = '1~'\ntimeout = '1~'\nJOB", 2, 13, "~", "invalid character at 1"),
+    // A field under both of its names, whose value is read first or not.
+    ("timeout = '2h'\nlimit = '1s'\nJOB", 1, 1, "", "duplicate field `timeout`"),
+    ("job = { name = 'a', label = 'b' }", 1, 9, "", "duplicate field `name`"),
     // A fault behind escapes.
     ("timeout = \"\\u0031d\\t2 ~\"\nJOB", 1, 23, "~", "invalid character at 5"),
     // What is unknown is marked at its key, and what is missing where its table begins: the first one that has no such key.
