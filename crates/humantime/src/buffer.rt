@@ -5,7 +5,7 @@ ghost use Rattle.std.specs.Str.{IsUtf8};
 
 use std::str::from_utf8_unchecked;
 
-/// Returns the text in the first `end` bytes of the buffer, which must be valid UTF-8.
+/// Returns the string in the first `end` bytes of the buffer, which must be valid UTF-8.
 #[inline(always)]
 pub(crate) fn str_prefix(buf: &[u8], end: usize) -> &str
     requires fits { end ≤ length buf.now }

@@ -11,13 +11,13 @@ use std::io::Write;
 
 mod callers;
 
-/// The exit status if the text was parsed.
+/// The exit status if the string was parsed.
 const ACCEPTED: u8 = 0;
 
-/// The exit status if the text could not be parsed.
+/// The exit status if the string could not be parsed.
 const REJECTED: u8 = 1;
 
-/// The exit status if the arguments are not a command and its text.
+/// The exit status if the arguments are not a command and its string.
 const MISUSED: u8 = 2;
 
 /// The exit status if a write failed or, in `main`, the arguments cannot be collected or standard output cannot be flushed.
@@ -27,8 +27,8 @@ const USAGE: &str = "usage: humantime duration|strict|weak TEXT";
 
 /// Runs the command given by `words`, the arguments after the program's name, and returns the exit status.
 ///
-/// - `duration TEXT` writes the canonical text of the duration to `out` and returns 0.
-/// - `strict TEXT` and `weak TEXT` write the moment, as `format_rfc3339` prints it, to `out` and return 0.
+/// - `duration TEXT` writes the canonical string of the duration to `out` and returns 0.
+/// - `strict TEXT` and `weak TEXT` write the time, as `format_rfc3339` prints it, to `out` and return 0.
 /// - If one of these cannot parse `TEXT`, it writes the error message to `err` and returns 1.
 /// - For any other arguments, it writes the usage line to `err` and returns 2.
 ///

@@ -7,9 +7,9 @@ use std::fmt;
 /// The maximum number of bytes in a piece. Only the message for a unit of more than 72 bytes takes more than one.
 const PIECE_LEN: usize = 192;
 
-/// The bytes of a text from an offset on, as many as fit.
+/// The bytes of a string from an offset on, as many as fit.
 ///
-/// The whole text is written to it: it skips the bytes before the offset, and drops those that do not fit.
+/// The whole string is written to it: it skips the bytes before the offset, and drops those that do not fit.
 #[derive(Drop)]
 pub(crate) struct Piece {
     /// The number of bytes that it still skips.
@@ -25,7 +25,7 @@ impl Piece {
     ghost use Rattle.std.specs.Prelude.{◌≡◌, [], take};
     ghost use Rattle.humantime_cli.specs.Pieces.{IsPiece};
 
-    /// Returns an empty piece of a text, from the offset `start` on.
+    /// Returns an empty piece of a string, from the offset `start` on.
     pub(crate) fn new(start: usize) -> Piece
         ensures { IsPiece start [] result }
     {

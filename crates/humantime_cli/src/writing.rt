@@ -7,7 +7,7 @@ use crate::piece::Piece;
 use std::fmt::{self, Display, Write as _};
 use std::io::Write;
 
-/// Writes the text that `value` displays and a line feed. A write fails if it returns an error or writes no bytes. Nothing more is written
+/// Writes the string that `value` displays and a line feed. A write fails if it returns an error or writes no bytes. Nothing more is written
 /// after a failed write.
 ///
 /// If `to` failed within `Display`, no contract would say what it had received. So `value` is displayed to a [`Piece`], which never fails. It

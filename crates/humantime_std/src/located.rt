@@ -134,7 +134,7 @@ impl Display for Underline<'_> {
     }
 }
 
-/// Writes a text as many times as there are columns.
+/// Writes a string as many times as there are columns.
 fn fill<W: fmt::Write>(f: &mut fmt::Formatter<W>, text: &str, columns: usize) -> fmt::Result {
     for _i in 0..columns {
         f.write_str(text)?;
@@ -261,9 +261,9 @@ fn duration_range(text: &str, error: &DurationError<'_>) -> (usize, usize)
     }
 }
 
-/// Returns the range of the first span up to whose end a text overflows.
+/// Returns the range of the first span up to whose end a string overflows.
 ///
-/// It halves the number of spans that fit: each test parses a front of the text, so one for each span would take quadratic time.
+/// It halves the number of spans that fit: each test parses a front of the string, so one for each span would take quadratic time.
 fn overflow_range(text: &str) -> (usize, usize)
     requires { HasFault (chars text.now) NumberOverflow }
     ensures place { OverflowsAt (chars text.now) result.0 result.1 }
@@ -331,7 +331,7 @@ fn error_range(text: &str, error: TimestampError, strict: bool) -> (usize, usize
     }
 }
 
-/// Returns the offset after the character at an offset, or the end of the text if there is none.
+/// Returns the offset after the character at an offset, or the end of the string if there is none.
 #[tactic(auto, using(crate::proofs::Inside::char_end_is))]
 fn char_end(text: &str, at: usize) -> usize
     requires { at ≤ length text.now }
@@ -406,7 +406,7 @@ fn pair(bytes: &[u8], at: usize) -> u32
     (bytes[at] - b'0') as u32 * 10 + (bytes[at + 1] - b'0') as u32
 }
 
-/// Returns the length of the longest timestamp at the front of a text whose first 19 bytes fit the layout.
+/// Returns the length of the longest timestamp at the front of a string whose first 19 bytes fit the layout.
 #[tactic(auto, unfolding(crate::specs::Located::zone_len))]
 fn timestamp_len(bytes: &[u8]) -> usize
     requires { 19 ≤ length bytes.now }

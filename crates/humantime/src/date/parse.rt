@@ -112,7 +112,7 @@ pub fn parse_rfc3339(s: &str) -> Result<SystemTime, TimestampError>
     read_strict(s.as_bytes())
 }
 
-/// Parses the bytes of a timestamp in the strict form. Returns the time, or the error of the first check that fails.
+/// Parses the bytes of a timestamp in the strict format. Returns the time, or the error of the first check that fails.
 #[inline(always)]
 #[tactic(auto, using(crate::proofs::TimestampOutcomes::strict_marks))]
 fn read_strict(bytes: &[u8]) -> Result<SystemTime, TimestampError>
@@ -124,7 +124,7 @@ fn read_strict(bytes: &[u8]) -> Result<SystemTime, TimestampError>
     read_timestamp(bytes)
 }
 
-/// Returns `true` if the text has at least 20 bytes, byte 10 is a `T`, and a zone is at the end.
+/// Returns `true` if the string has at least 20 bytes, byte 10 is a `T`, and a zone is at the end.
 #[inline(always)]
 #[tactic(auto, unfolding(crate::proofs::TimestampParts::zones_open))]
 fn has_t_and_zone(bytes: &[u8]) -> bool
@@ -155,7 +155,7 @@ fn ends_in_zero_offset(bytes: &[u8]) -> bool
     matches!(bytes, [.., b'+', b'0', b'0', b':', b'0', b'0'])
 }
 
-/// Parses the bytes of a timestamp in the weak form. Returns the time, or the error of the first check that fails.
+/// Parses the bytes of a timestamp in the weak format. Returns the time, or the error of the first check that fails.
 #[inline(always)]
 #[tactic(auto, using(crate::proofs::Checks::checks), unfolding(crate::proofs::Checks::checks_open))]
 fn read_timestamp(bytes: &[u8]) -> Result<SystemTime, TimestampError>
@@ -173,7 +173,7 @@ fn read_timestamp(bytes: &[u8]) -> Result<SystemTime, TimestampError>
     Ok(SystemTime::after_epoch(seconds, nanos))
 }
 
-/// Returns the error of a text for which [`parse_date_time`] returns `None`. If the punctuation is right, a digit is wrong.
+/// Returns the error of a string for which [`parse_date_time`] returns `None`. If the punctuation is right, a digit is wrong.
 #[inline(always)]
 #[tactic(auto, using(crate::proofs::Checks::marks), unfolding(crate::proofs::Checks::marks_open))]
 fn layout_error(bytes: &[u8]) -> TimestampError

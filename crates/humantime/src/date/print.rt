@@ -232,7 +232,7 @@ impl Rfc3339Timestamp {
         text_if_any(buf, len)
     }
 
-    /// Writes the text to the front of `buf` and returns its length in bytes. Outside 1970 to 9999, returns `None`, with `buf` unchanged.
+    /// Writes the string to the front of `buf` and returns its length in bytes. Outside 1970 to 9999, returns `None`, with `buf` unchanged.
     #[inline(always)]
     fn write(&self, buf: &mut [u8; 30]) -> Option<usize>
         ensures within { IsSome result ↔ IsPrintable self.now.moment }
@@ -244,7 +244,7 @@ impl Rfc3339Timestamp {
         Some(self.write_parts(date, second_of_day, buf))
     }
 
-    /// Writes the text of a date, the seconds after midnight and this time's fraction to the front of `buf`. Returns its length in
+    /// Writes the string of a date, the seconds after midnight and this time's fraction to the front of `buf`. Returns its length in
     /// bytes.
     #[inline(always)]
     fn write_parts(&self, date: Date, second_of_day: u32, buf: &mut [u8; 30]) -> usize
@@ -318,7 +318,7 @@ fn date_and_time(time: SystemTime) -> Option<(Date, u32)>
 /// Fills the buffer with the date, `T`, the time of day and `.000000000Z`, over which the caller writes the digits of the fraction. Unless
 /// there are nine, it writes a `Z` after them.
 ///
-/// The contract passes 0 nanoseconds and 0 digits to `printed_fields`: the text before the point does not depend on them.
+/// The contract passes 0 nanoseconds and 0 digits to `printed_fields`: the string before the point does not depend on them.
 #[inline(always)]
 #[tactic(auto, using(crate::proofs::Dates::valid_from_test))]
 fn write_date_time(date: Date, second_of_day: u32, buf: &mut [u8; 30])

@@ -47,7 +47,7 @@ pub enum DurationError<'a> {
     /// nanoseconds or seconds must also fit in a `u64`.
     ///
     /// The product of a number and its unit is in nanoseconds for units up to milliseconds, and otherwise in seconds. A product in
-    /// nanoseconds, plus the nanoseconds of the earlier spans below a second, must also fit in a `u64`.
+    /// nanoseconds, plus the subsecond nanoseconds of the sum so far, must also fit in a `u64`.
     NumberOverflow,
     /// The string is empty or consists of whitespace only.
     Empty,

@@ -58,7 +58,7 @@ impl<'a> Iterator for SpanIter<'a> {
         let rest = skip_whitespace(self.rest);
         if rest.is_empty() {
             self.ended = true;
-            // If `rest` is still the whole text, no span has been read, so the text is empty or only whitespace.
+            // If `rest` is still the whole string, no span has been read, so the string is empty or only whitespace.
             let is_blank = self.rest.len() == self.text.len();
             return is_blank.then_some(Err(DurationError::Empty));
         }

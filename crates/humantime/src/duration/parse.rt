@@ -105,7 +105,7 @@ pub fn spans(s: &str) -> SpanIter<'_>
     }
 }
 
-/// Returns the sum of the spans of a text, or the text's first error.
+/// Returns the sum of the spans of a string, or the string's first error.
 #[inline(always)]
 #[tactic(auto, using(crate::proofs::Sums::sums), unfolding(crate::specs::Walks::sum_spans))]
 fn sum_of<'a>(text: &'a str) -> Result<StdDuration, DurationError<'a>>

@@ -19,7 +19,7 @@ use itoa::Buffer;
 use std::fmt;
 use std::marker::Model;
 
-/// A buffer whose first `end` bytes are the text written so far.
+/// A buffer whose first `end` bytes are the string written so far.
 #[derive(Drop)]
 struct Writer<'b> {
     bytes: &'b mut [u8],
@@ -42,7 +42,7 @@ impl<'b> Writer<'b> {
         Writer { bytes, end: 0 }
     }
 
-    /// Appends a text, which must fit in the buffer.
+    /// Appends a string, which must fit in the buffer.
     #[inline(always)]
     fn push(&mut self, text: &str)
         requires fits { self.old.end + length text.now ≤ length self.old.bytes.now }
@@ -212,7 +212,7 @@ impl FormattedDuration {
     }
 }
 
-/// Writes the text of a duration to the front of the buffer, and returns the text's length in bytes.
+/// Writes the string of a duration to the front of the buffer, and returns the string's length in bytes.
 ///
 /// The clause `within` holds for every duration. It is here for the proof of [`FormattedDuration::text`], which has only a reference to the
 /// duration.
@@ -303,7 +303,7 @@ pub fn canonical<'a, 'b>(s: &'a str, buf: &'b mut [u8; 64]) -> Result<&'b str, D
     text_or_error(buf, len)
 }
 
-/// Returns the text in the first `len` bytes of the buffer, or the error if `len` is one.
+/// Returns the string in the first `len` bytes of the buffer, or the error if `len` is one.
 ///
 /// This is a separate function so that the handwritten proof of [`canonical`] can use its contract.
 #[inline(always)]
@@ -319,7 +319,7 @@ fn text_or_error<'a, 'b>(
     Ok(str_prefix(buf, len?))
 }
 
-/// Parses a duration, writes its canonical text to the front of the buffer, and returns the text's length in bytes.
+/// Parses a duration, writes its canonical string to the front of the buffer, and returns the string's length in bytes.
 ///
 /// If parsing fails, returns the error and leaves the buffer unchanged.
 #[tactic(auto, unfolding(crate::specs::DurationResults::canonical_answer))]

@@ -44,7 +44,7 @@ fn skip_non_ascii_whitespace(text: &str, at: usize) -> Option<usize>
 
 /// Returns the offset after the whitespace character at offset `at`, or `None` if the character there is not whitespace.
 ///
-/// A character must begin at `at`, so `at` is less than the length of the text.
+/// A character must begin at `at`, so `at` is less than the length of the string.
 #[inline(always)]
 #[tactic(auto, using(crate::proofs::Offsets::whitespace_at))]
 pub(crate) fn skip_whitespace_char(text: &str, at: usize) -> Option<usize>
@@ -85,7 +85,7 @@ fn skip_spaces(text: &str, from: usize) -> usize
     at
 }
 
-/// Returns what follows the whitespace at the start of the text, if any.
+/// Returns what follows the whitespace at the start of the string, if any.
 #[inline(always)]
 #[tactic(auto, using(crate::proofs::Offsets::first))]
 pub(crate) fn skip_whitespace(text: &str) -> &str
@@ -101,7 +101,7 @@ pub(crate) fn skip_whitespace(text: &str) -> &str
     &text[at..]
 }
 
-/// Returns `true` if the text begins with an ASCII digit.
+/// Returns `true` if the string begins with an ASCII digit.
 #[inline(always)]
 #[tactic(auto, using(crate::proofs::Offsets::first))]
 pub(crate) fn begins_with_digit(text: &str) -> bool
@@ -111,8 +111,8 @@ pub(crate) fn begins_with_digit(text: &str) -> bool
     !bytes.is_empty() && bytes[0].is_ascii_digit()
 }
 
-/// Reads the digits at the start of the text, with the whitespace between and after them. Returns the number and the rest, or `None` if its
-/// value does not fit in a `u64`. The text must begin with a digit.
+/// Reads the digits at the start of the string, with the whitespace between and after them. Returns the number and the rest, or `None` if its
+/// value does not fit in a `u64`. The string must begin with a digit.
 #[inline(always)]
 #[tactic(auto, using(crate::proofs::Offsets::rests, crate::proofs::SpanParts::first_digit))]
 pub(crate) fn read_number(text: &str) -> Option<(Number<'_>, &str)>
@@ -148,7 +148,7 @@ pub(crate) fn read_number(text: &str) -> Option<(Number<'_>, &str)>
     Some((number, &text[at..]))
 }
 
-/// Returns what follows the decimal point at the start of the text, or `None` if there is no point.
+/// Returns what follows the decimal point at the start of the string, or `None` if there is no point.
 #[inline(always)]
 #[tactic(auto, using(crate::proofs::Offsets::first), unfolding(crate::specs::Characters::is_point))]
 pub(crate) fn skip_point(text: &str) -> Option<&str>
@@ -161,8 +161,8 @@ pub(crate) fn skip_point(text: &str) -> Option<&str>
     Some(&text[1..])
 }
 
-/// Reads the digits of a fraction at the start of the text, if any, with the whitespace around and between them. Returns the fraction
-/// with this part of the text, and the rest, or `None` if there are more than 19 digits before the trailing zeros.
+/// Reads the digits of a fraction at the start of the string, if any, with the whitespace around and between them. Returns the fraction
+/// with this part of the string, and the rest, or `None` if there are more than 19 digits before the trailing zeros.
 #[inline(always)]
 #[tactic(auto, using(crate::proofs::Offsets::rests, crate::proofs::Characters::digit_is))]
 pub(crate) fn read_fraction(text: &str) -> Option<((Fraction, &str), &str)>
@@ -185,7 +185,7 @@ pub(crate) fn read_fraction(text: &str) -> Option<((Fraction, &str), &str)>
     Some(((fraction, &text[..at]), &text[at..]))
 }
 
-/// Returns the letters (ASCII, `µ` or `μ`) at the start of the text, if any, and the rest.
+/// Returns the letters (ASCII, `µ` or `μ`) at the start of the string, if any, and the rest.
 #[inline(always)]
 #[tactic(auto, using(crate::proofs::Offsets::rests))]
 pub(crate) fn split_word(text: &str) -> (&str, &str)
@@ -209,7 +209,7 @@ pub(crate) fn split_word(text: &str) -> (&str, &str)
     (&text[..at], &text[at..])
 }
 
-/// Returns `true` if a fraction has no digits, and a letter or the end of the text follows its point.
+/// Returns `true` if a fraction has no digits, and a letter or the end of the string follows its point.
 #[inline(always)]
 #[tactic(auto, using(crate::proofs::Offsets::rests))]
 fn is_bare_point(fraction: Fraction, rest: &str) -> bool
@@ -218,7 +218,7 @@ fn is_bare_point(fraction: Fraction, rest: &str) -> bool
     fraction.len == 0 && (rest.is_empty() || !split_word(rest).0.is_empty())
 }
 
-/// Returns the text after the word of a span, without the whitespace character at its start, if any. Returns `None` if the word may not end
+/// Returns the string after the word of a span, without the whitespace character at its start, if any. Returns `None` if the word may not end
 /// there, because a character other than whitespace or a digit follows it.
 ///
 /// It skips one character, since there is usually only one before the next digit. `skip_whitespace` skips the others.
@@ -228,7 +228,7 @@ pub(crate) fn skip_span_end(text: &str) -> Option<&str>
     ensures read { option_map (λ t. chars t.now) result ≡ reader.skip_span_end (chars text.now) }
     ensures rest { IfSome result (λ t. IsTail text.now t.now) }
 {
-    // The end of the text or a space follows most words, so these are tested first.
+    // The end of the string or a space follows most words, so these are tested first.
     if text.is_empty() {
         return Some(text);
     }
@@ -245,7 +245,7 @@ pub(crate) fn skip_span_end(text: &str) -> Option<&str>
 /// A span and the string after it, or the error of the first check that fails.
 type ReadSpan<'a> = Result<(Span<'a>, &'a str), DurationError<'a>>;
 
-/// Returns the offset in the text at which `rest`, its unread end, begins.
+/// Returns the offset in the string at which `rest`, its unread end, begins.
 #[inline(always)]
 #[tactic(auto, using(crate::proofs::Offsets::tail_offset))]
 fn offset_in(text: &str, rest: &str) -> usize

@@ -14,14 +14,14 @@ fn print_duration(out: &mut Vec<u8>, err: &mut Vec<u8>) -> u8
     run(&["duration", "2h 37min"], out, err)
 }
 
-/// Prints the error message of a text that is not a valid duration.
+/// Prints the error message of a string that is not a valid duration.
 fn explain_fault(out: &mut Vec<u8>, err: &mut Vec<u8>) -> u8
     ensures { result ≢ 3 → (result ≡ 1) × (out.new.items ≡ out.old.items) × (err.new.items ≡ err.old.items ++ codes "invalid character at 1\n") }
 {
     run(&["duration", "1~"], out, err)
 }
 
-/// Prints a timestamp in the strict form.
+/// Prints a timestamp in the strict format.
 fn print_strict(out: &mut Vec<u8>, err: &mut Vec<u8>) -> u8
     ensures { result ≢ 3 → (result ≡ 0) × (out.new.items ≡ out.old.items ++ codes "2018-02-14T00:28:07Z\n") × (err.new.items ≡ err.old.items) }
 {
