@@ -4,6 +4,7 @@
 
 use std::collections::BTreeSet;
 use std::path::Path;
+use std::sync::LazyLock;
 
 /// Characters that end a duration's text, continue it or make it invalid.
 pub const HOSTILE: [char; 18] = ['0', '1', '9', '.', ' ', '\u{3000}', 's', 'h', 'n', 'u', 'M', 'µ', 'μ', '~', '-', '\0', 'é', '\u{200b}'];
@@ -113,19 +114,11 @@ fn quoted(line: &str, found: &mut BTreeSet<String>) {
     }
 }
 
-/// The words of each unit, and its length in nanoseconds or seconds.
-const UNITS: [(&[&str], u64); 10] = [
-    (&["nanos", "nsec", "ns"], 1),
-    (&["usec", "us", "µs", "μs"], 1_000),
-    (&["millis", "msec", "ms"], 1_000_000),
-    (&["seconds", "second", "secs", "sec", "s"], 1),
-    (&["minutes", "minute", "min", "mins", "m"], 60),
-    (&["hours", "hour", "hr", "hrs", "h"], 3_600),
-    (&["days", "day", "d"], 86_400),
-    (&["weeks", "week", "wk", "wks", "w"], 604_800),
-    (&["months", "month", "M"], 2_630_016),
-    (&["years", "year", "yr", "yrs", "y"], 31_557_600),
-];
+/// The words of each unit, and its length in nanoseconds or seconds, in the table of a page.
+static UNITS: LazyLock<Vec<(Vec<&str>, u64)>> = LazyLock::new(|| {
+    let rows = include_str!("../../docs/DURATIONS.md").lines().filter_map(|line| line.strip_prefix("| `")?.split_once("` | "));
+    rows.filter_map(|(words, size)| Some((words.split("` `").collect(), size.split(' ').next()?.replace(',', "").parse().ok()?))).collect()
+});
 
 /// Returns each word with the greatest number that it accepts.
 pub fn words() -> impl Iterator<Item = (&'static str, u64)> {
@@ -172,7 +165,7 @@ pub fn spoiled_timestamps(to: &mut dyn FnMut(&str)) {
 
 /// Returns the text of a span at one of the limits, or far from all of them.
 fn random_span(random: &mut Random) -> String {
-    let (words, size) = random.of(&UNITS);
+    let (words, size) = &UNITS[random.below(UNITS.len() as u64) as usize];
     let (word, most) = (random.of(words), u64::MAX / size);
     let number = match random.below(8) {
         0..=2 => random.below(1_000).to_string(),
@@ -196,7 +189,7 @@ fn random_digits(random: &mut Random, most: u64) -> String {
 fn random_fraction(random: &mut Random) -> String {
     let digits = match random.below(6) {
         0 => random_digits(random, 22),
-        1 => ((u64::MAX / random.of(&UNITS).1).saturating_add(2) - random.below(5)).to_string(),
+        1 => ((u64::MAX / UNITS[random.below(UNITS.len() as u64) as usize].1).saturating_add(2) - random.below(5)).to_string(),
         2 => format!("{}{}", "0".repeat(random.below(20) as usize), random.below(10)),
         _ => random_digits(random, 9),
     };
