@@ -10,7 +10,7 @@ ghost use Rattle.humantime_settings.specs.Marks.{IsErrorIn};
 use crate::error::{SettingsError, marked_at};
 use crate::faults::{Fault, fault_in};
 use crate::path::{Step, path_to};
-use json::{Reader, Scratch, Token};
+use json::{Scratch, Token};
 use serde::{Deserialize, Serialize};
 use std::alloc::{AllocError, Global};
 
@@ -84,34 +84,21 @@ fn located(alloc: Global, text: &str, error: &serde_json::Error) -> Result<Fault
     let mut message = error.to_string(alloc)?;
     message.truncate(message.rfind(" at line ").unwrap_or(message.len()));
     let at = offset_of(text, error);
-    if message.starts_with("duplicate field") {
-        return Ok(Fault::at(key_of(alloc, text, at)?, message));
-    }
-    let front = text.get(at..).unwrap_or("");
     let mut scratch = Scratch::new(alloc);
-    let token = first_token(front, &mut scratch)?;
-    if let Token::String(text) | Token::Key(text) = token {
-        if let Some(fault) = fault_in(alloc, &message, front, text)? {
-            return Ok(fault.after(at));
+    let (path, token) = path_to(alloc, text, at, &mut scratch)?;
+    match (path.last(), token) {
+        (Some(Step::Key(_, key)), _) if message.starts_with("duplicate field") => {
+            return Ok(Fault::at(*key, message));
         }
+        (_, Token::String(string) | Token::Key(string)) => {
+            let front = text.get(at..).unwrap_or("");
+            if let Some(fault) = fault_in(alloc, &message, front, string)? {
+                return Ok(fault.after(at));
+            }
+        }
+        _ => {}
     }
     Ok(Fault::at(at, with_token(alloc, message, token)?))
-}
-
-/// Returns the offset of the key of the token at an offset, or this offset if it has none.
-fn key_of(alloc: Global, text: &str, at: usize) -> Result<usize, AllocError> {
-    let mut scratch = Scratch::new(alloc);
-    let (path, _) = path_to(alloc, text, at, &mut scratch)?;
-    Ok(match path.last() {
-        Some(Step::Key(_, key)) => *key,
-        _ => at,
-    })
-}
-
-/// Returns the token at the front of a document.
-fn first_token<'a>(document: &'a str, scratch: &'a mut Scratch) -> Result<Token<'a>, AllocError> {
-    let mut reader = Reader::new(document, scratch)?;
-    Ok(reader.next().unwrap_or(Token::Bad))
 }
 
 /// Returns a message with the type, the number or the name that `serde_json` leaves out.
