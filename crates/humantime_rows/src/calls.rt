@@ -11,7 +11,7 @@ use humantime::{
 use std::fmt::{self, Formatter, Write};
 use std::str::{FromStr, SplitWhitespace};
 
-/// Writes the result of a row's call, whose argument is a text in quotes or numbers.
+/// Writes the result of a row's call, whose argument is a string in quotes or numbers.
 pub(crate) fn write_call<W: fmt::Write>(f: &mut Formatter<W>, row: Row<'_>) -> fmt::Result {
     let text = row.text();
     match row.call {

@@ -1,13 +1,13 @@
-//! The text that `Display` writes with various formats.
+//! The string that `Display` writes with various formats.
 
 use crate::writing::all_agree;
 use std::fmt::{self, Display, Write};
 
-/// A sink that expects one text. It compares what is written with it, stores nothing, counts the writes, and fails after a write that
+/// A sink that expects one string. It compares what is written with it, stores nothing, counts the writes, and fails after a write that
 /// differs.
 #[derive(Drop)]
 struct Wanted<'a> {
-    /// The rest of the expected text, until a write differs from it.
+    /// The rest of the expected string, until a write differs from it.
     rest: Option<&'a [u8]>,
     requests: u32,
 }
@@ -23,7 +23,7 @@ impl fmt::Write for Wanted<'_> {
     }
 }
 
-/// Returns whether the value is written as this text, in at most `most` writes.
+/// Returns whether the value is written as this string, in at most `most` writes.
 pub fn is_written<D: Display + Drop>(value: D, text: &str, most: u32) -> bool {
     let mut sink = Wanted {
         rest: Some(text.as_bytes()),
@@ -35,7 +35,7 @@ pub fn is_written<D: Display + Drop>(value: D, text: &str, most: u32) -> bool {
     }
 }
 
-/// Returns whether the value is written as this text in at most `most` writes with any format, and stops at the first write that fails.
+/// Returns whether the value is written as this string in at most `most` writes with any format, and stops at the first write that fails.
 pub(crate) fn is_always_written<T: Display>(value: &T, text: &str, most: u32) -> bool {
     all_agree(&[
         refused_requests(value) == 1,

@@ -9,7 +9,7 @@ use humantime::{
 };
 use std::fmt::{self, Formatter, Write};
 
-/// Writes the seconds and nanoseconds of the text, or its error, which leaves the buffer unchanged and does not borrow it.
+/// Writes the seconds and nanoseconds of the string, or its error, which leaves the buffer unchanged and does not borrow it.
 pub(crate) fn parse<W: fmt::Write>(f: &mut Formatter<W>, text: &str) -> fmt::Result {
     let mut buf = [b'-'; 64];
     let wrapped = Duration::from_str(text);
@@ -35,7 +35,7 @@ pub(crate) fn parse<W: fmt::Write>(f: &mut Formatter<W>, text: &str) -> fmt::Res
     }
 }
 
-/// Returns whether the offsets of the error lie on `char` boundaries of the text, with its unit between them.
+/// Returns whether the offsets of the error lie on `char` boundaries of the string, with its unit between them.
 fn points_into(error: DurationError<'_>, text: &str) -> bool {
     match error {
         DurationError::InvalidCharacter(at) | DurationError::NumberExpected(at) => {
@@ -65,14 +65,14 @@ pub(crate) fn misplace<W: fmt::Write>(
     write_result(f, format_args!("{invalid}, {expected}"), is_agreed)
 }
 
-/// Writes the printed text of a duration.
+/// Writes the printed string of a duration.
 pub(crate) fn print<W: fmt::Write>(f: &mut Formatter<W>, value: StdDuration) -> fmt::Result {
     let printed = format_duration(value);
     let is_agreed = is_printed(value, printed.text(&mut [0; 64]));
     write_result(f, format_args!("\"{printed}\""), is_agreed)
 }
 
-/// Returns whether every call that prints the duration prints this text, and the text is parsed to the duration.
+/// Returns whether every call that prints the duration prints this string, and the string is parsed to the duration.
 fn is_printed(value: StdDuration, text: &str) -> bool {
     let printed = format_duration(value);
     let is_cloned = match printed.clone() {
@@ -89,13 +89,13 @@ fn is_printed(value: StdDuration, text: &str) -> bool {
     ])
 }
 
-/// Returns whether the duration is printed as this text at the front of the buffer, whatever the buffer held before.
+/// Returns whether the duration is printed as this string at the front of the buffer, whatever the buffer held before.
 fn is_front(printed: &FormattedDuration, text: &str) -> bool {
     let mut buf = [b'x'; 64];
     printed.text(&mut buf) == text && buf.starts_with(text.as_bytes())
 }
 
-/// Writes the items of the text, and what three more calls return after the last one.
+/// Writes the items of the string, and what three more calls return after the last one.
 pub(crate) fn split<W: fmt::Write>(f: &mut Formatter<W>, text: &str) -> fmt::Result {
     let mut items = spans(text);
     for item in items.by_ref() {

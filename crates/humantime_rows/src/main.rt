@@ -41,7 +41,7 @@ fn main(rt: HostRuntime) -> io::Result<ExitCode> {
 /// The rows that were tried.
 #[derive(Drop)]
 struct Tally {
-    /// The texts of a row.
+    /// The strings of a row.
     room: String,
     /// How many rows hold.
     holds: u64,

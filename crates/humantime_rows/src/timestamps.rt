@@ -10,14 +10,14 @@ use humantime::{
 };
 use std::fmt::{self, Formatter, Write};
 
-/// Writes the seconds and nanoseconds of the text in the weak form, or the error.
+/// Writes the seconds and nanoseconds of the string in the weak format, or the error.
 pub(crate) fn parse_weakly<W: fmt::Write>(f: &mut Formatter<W>, text: &str) -> fmt::Result {
     let read = parse_rfc3339_weak(text);
     let same = text.parse::<Timestamp>().map(SystemTime::from);
     write_result(f, read.map(|moment| moment.parts()), same == read)
 }
 
-/// Writes the text of a moment, as the call of this name prints it, or returns `None` if no call has this name.
+/// Writes the string of a moment, as the call of this name prints it, or returns `None` if no call has this name.
 pub(crate) fn print<W: fmt::Write>(
     f: &mut Formatter<W>,
     call: &str,
@@ -58,7 +58,7 @@ fn printer(call: &str, moment: SystemTime) -> Option<Rfc3339Timestamp> {
     }
 }
 
-/// Returns whether `Display` writes the wrapper of the moment as this text, and the text is parsed to the moment.
+/// Returns whether `Display` writes the wrapper of the moment as this string, and the string is parsed to the moment.
 fn is_shortest(moment: SystemTime, text: &str) -> bool {
     is_always_written(&Timestamp::from(moment), text, 1) && parse_rfc3339(text) == Ok(moment)
 }

@@ -67,7 +67,7 @@ pub(crate) fn write_some<W: fmt::Write, V: Value>(
     }
 }
 
-/// Writes the value that was parsed as a wrapper, and the wrapper's text; or the error.
+/// Writes the value that was parsed as a wrapper, and the wrapper's string; or the error.
 pub(crate) fn write_parsed<W: fmt::Write, V: Value, E: Debug + Drop>(
     f: &mut Formatter<W>,
     read: Result<V::Wrapper, E>,

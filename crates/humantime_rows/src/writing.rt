@@ -22,7 +22,7 @@ pub(crate) fn write_result<W: fmt::Write, T: Debug + Drop>(
     write!(f, "{value:?}{note}")
 }
 
-/// Writes that there is no result: the name of the call or its numbers cannot be parsed, or the text has no error.
+/// Writes that there is no result: the name of the call or its numbers cannot be parsed, or the string has no error.
 pub(crate) fn no_result<W: fmt::Write>(f: &mut Formatter<W>) -> fmt::Result {
     f.write_str("no result")
 }

@@ -227,7 +227,7 @@ impl fmt::Display for SettingsError {
     }
 }
 
-/// A text that is written with an escape in place of each character that is not to reach a terminal.
+/// A string that is written with an escape in place of each character that is not to reach a terminal.
 #[derive(Clone, Copy)]
 struct Escaped<'a>(&'a str);
 
@@ -246,7 +246,7 @@ impl fmt::Display for Escaped<'_> {
 
 impl Error for SettingsError {}
 
-/// Returns a fault with its line. It begins where a character begins or the text ends, and ends with the line at the latest.
+/// Returns a fault with its line. It begins where a character begins or the string ends, and ends with the line at the latest.
 pub(crate) fn marked_at(alloc: Global, text: &str, fault: Fault) -> Result<Marked, AllocError>
     ensures { IfOk result (IsMarkedIn text.now) }
 {
@@ -268,14 +268,14 @@ pub(crate) fn marked_at(alloc: Global, text: &str, fault: Fault) -> Result<Marke
     })
 }
 
-/// Returns the number of the last line of a text, from 1.
+/// Returns the number of the last line of a string, from 1.
 fn line_number(text: &str) -> usize
     ensures { result ≡ count_by is_line_feed text.now + 1 }
 {
     text.bytes().filter(|b| *b == b'\n').count() + 1
 }
 
-/// Returns the text before the first line feed, or the whole text if it has none.
+/// Returns the string before the first line feed, or the whole string if it has none.
 fn first_line(text: &str) -> &str
     ensures { result.now ≡ before_first is_line_feed text.now }
 {
@@ -285,7 +285,7 @@ fn first_line(text: &str) -> &str
     }
 }
 
-/// Returns the text after the last line feed, or the whole text if it has none.
+/// Returns the string after the last line feed, or the whole string if it has none.
 fn last_line(text: &str) -> &str
     ensures { result.now ≡ after_last is_line_feed text.now }
 {

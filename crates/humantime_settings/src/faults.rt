@@ -8,12 +8,12 @@ use std::fmt::{Display, InlineText};
 /// A message as the error of a format has it: its first 80 bytes, which end in dots if it is longer.
 pub(crate) type Message = InlineText<80>;
 
-/// The error of a value that is no text, where a duration is wanted. JSON has room for 32 bytes.
+/// The error of a value that is no string, where a duration is wanted. JSON has room for 32 bytes.
 pub(crate) const WANTS_DURATION: &str = "expected a duration in quotes";
-/// The error of a value that is no text, where a timestamp is wanted.
+/// The error of a value that is no string, where a timestamp is wanted.
 pub(crate) const WANTS_TIMESTAMP: &str = "expected a timestamp in quotes";
 
-/// What is wrong with a text, and where.
+/// What is wrong with a string, and where.
 #[derive(Drop)]
 pub(crate) struct Fault {
     pub message: String,
@@ -34,7 +34,7 @@ impl Fault {
         }
     }
 
-    /// Returns the same fault of a text with this many more bytes before it.
+    /// Returns the same fault of a string with this many more bytes before it.
     pub(crate) fn after(self, offset: usize) -> Fault {
         Fault {
             message: self.message,
@@ -44,7 +44,7 @@ impl Fault {
     }
 }
 
-/// Returns the fault of the text of the string at the front of a document, if `said`, which the format may have cut, is its message.
+/// Returns the fault of the string literal at the front of a document, if `said`, which the format may have cut, is its message.
 pub(crate) fn fault_in(
     alloc: Global,
     said: &str,
@@ -58,7 +58,7 @@ pub(crate) fn fault_in(
     said_fault(alloc, said, document, text, parse_rfc3339_weak(text).err())
 }
 
-/// Returns the fault of a text with this error, if `said` is its message.
+/// Returns the fault of a string with this error, if `said` is its message.
 fn said_fault<E: Display + Drop>(
     alloc: Global,
     said: &str,

@@ -188,22 +188,22 @@ impl<T: Field> DeserializeOwned for AsText<T> {
     }
 }
 
-/// A value with a text.
+/// A value with a canonical string.
 trait Text: Sized + Drop {
-    // This is the canonical text of the value.
+    // This is the canonical string of the value.
     ghost IsPrintedAs: { Self → List ℕ → Type 0 };
 
-    // The value is parsed from this text.
+    // The value is parsed from this string.
     ghost IsParsedFrom: { Self → List ℕ → Type 0 };
 
-    /// Writes the canonical text, from which the value is parsed again.
+    /// Writes the canonical string, from which the value is parsed again.
     fn write_text<S: Serializer>(&self, out: &mut S) -> Result<(), S::Error>
         ensures { OnOk result ((t : List ℕ) × IsPrintedAs self.now t × IsParsedFrom self.now t × Logs (S.written out.old) (S.written out.new) (text t)) };
 
-    /// The error of a value that is no text.
+    /// The error of a value that is no string.
     const WANTED: &'static str;
 
-    /// Parses a text, or returns the message of the error.
+    /// Parses a string, or returns the message of the error.
     fn parse_text(text: &str) -> Result<Self, Message>
         ensures value { IfOk result (λ v. IsParsedFrom v text.now) }
         ensures refused { IfErr result (λ _. (v : Self) → ¬ IsParsedFrom v text.now) };
@@ -340,7 +340,7 @@ fn next_entry<T: Text, F: Format>(
     Ok(Some((key, read_text(alloc, from)?)))
 }
 
-/// Reads a text and parses it.
+/// Reads a string and parses it.
 fn read_text<T: Text, F: Format>(
     alloc: Global,
     from: &mut Deserializer<'_, '_, F>,
@@ -357,7 +357,7 @@ fn read_text<T: Text, F: Format>(
     }
 }
 
-/// Returns the error where no text was read.
+/// Returns the error where no string was read.
 fn no_text<T: Text, F: Format>(from: &Deserializer<'_, '_, F>, error: F::Error) -> F::Error {
     if from.is_fatal(&error) {
         error

@@ -1,9 +1,9 @@
-//! Where a part of a text stands in the string of a document: in JSON, or of each of the four kinds in TOML.
+//! Where a part of a string is in its literal: in JSON, or of each of the four kinds in TOML.
 
 /// The white space that a backslash at the end of a line leaves out.
 const BLANK: [char; 4] = [' ', '\t', '\r', '\n'];
 
-/// Returns the range that stands for a range of the text of the string at the front of a document.
+/// Returns the range of the literal at the front of a document that stands for a range of its string.
 pub(crate) fn raw_range(document: &str, text: &str, start: usize, end: usize) -> (usize, usize) {
     let (first, _) = piece_at(document, text, start);
     if start < end {
@@ -13,8 +13,8 @@ pub(crate) fn raw_range(document: &str, text: &str, start: usize, end: usize) ->
     }
 }
 
-/// Returns where the character or the escape begins and ends that stands for a byte of the text, or twice where the closing quotes begin if
-/// the text has no such byte.
+/// Returns where the character or the escape begins and ends that stands for a byte of the string, or twice where the closing quotes begin if
+/// the string has no such byte.
 fn piece_at(document: &str, text: &str, byte: usize) -> (usize, usize) {
     let is_literal = document.starts_with('\'');
     let mut next = content_start(document);

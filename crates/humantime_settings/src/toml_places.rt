@@ -235,7 +235,7 @@ fn after_value(alloc: Global, value: &str) -> Result<&str, ParseError> {
     Ok(rest)
 }
 
-/// Returns the text after an offset.
+/// Returns the string after an offset.
 fn tail(text: &str, at: usize) -> &str {
     text.get(at..).unwrap_or("")
 }

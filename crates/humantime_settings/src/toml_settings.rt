@@ -27,8 +27,8 @@ use toml_parser::{ParseError, quoted, starts_string};
 ///   the start of the document.
 ///
 /// Returns [`SettingsError::Whole`], with the keys in the message, if the position is not known: of an item of an array that is no variant
-/// of an untagged enum, and where the same values are no such settings in JSON, which has no empty table for a variant without data, and at
-/// most 127 objects and arrays in one another.
+/// of an untagged enum, and where the same values are no such settings in JSON, which has no empty table for a variant without data, no
+/// integer key such as `+5` or `007`, and at most 127 objects and arrays in one another.
 ///
 /// Returns [`SettingsError::OutOfMemory`] if an allocation fails.
 ///

@@ -1,4 +1,4 @@
-//! Callers that write values by `Display`, in lines and in columns of tables. Width and fill do not change the texts.
+//! Callers that write values by `Display`, in lines and in columns of tables. Width and fill do not change the strings.
 
 ghost use Rattle.std.specs.Prelude.{◌≡◌, ◌++◌, ℕ, List, Some, Err, IsOk, IfOk, OnOk, codes, string_bytes};
 ghost use Rattle.std.specs.Fmt.{DisplaysOnOk, DisplaysStyledOnOk, WritesInCalls, fmt_error};
@@ -27,7 +27,7 @@ pub fn write_limit<W: Write>(limit: Duration, at: Timestamp, out: &mut W) -> fmt
     write!(out, "{limit} from {at}")
 }
 
-/// The text of a row of a table, unless there is no memory for it.
+/// The string of a row of a table, unless there is no memory for it.
 pub type Row = Result<String, AllocError>;
 
 /// Returns a row of a table: the time that something took, and its limit.

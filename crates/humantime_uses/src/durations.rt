@@ -6,7 +6,7 @@ ghost use Rattle.humantime.specs.Prelude.{Accepted, IsCanonicalOf, IsCanonicalTe
 
 use humantime::{DurationError, StdDuration, canonical, format_duration, parse_duration};
 
-/// Returns the whole seconds of a time limit in a settings file, or the error of its text.
+/// Returns the whole seconds of a time limit in a settings file, or the error of its string.
 pub fn limit_seconds(text: &str) -> Result<u64, DurationError<'_>>
     ensures { result_view result ≡ result_map_both (λ v. v / nanos_per_second) (λ e. e) (duration_answer (chars text.now)) }
 {
@@ -34,7 +34,7 @@ fn seconds_up(duration: StdDuration) -> Option<u64>
     }
 }
 
-/// Returns the sum of a start and a length, `None` if it is too long, or the first error of the two texts.
+/// Returns the sum of a start and a length, `None` if it is too long, or the first error of the two strings.
 pub fn end_of<'a>(start: &'a str, len: &'a str) -> Result<Option<StdDuration>, DurationError<'a>>
     ensures sum { (v : ℕ) (w : ℕ) → duration_answer (chars start.now) ≡ Ok v → duration_answer (chars len.now) ≡ Ok w → IsOkAnd result (λ end. SomeIff end (v + w < duration_end) (v + w)) }
     ensures start_fault { (e : Fault) → duration_answer (chars start.now) ≡ Err e → IsErrAnd result (λ error. fault_of error ≡ e) }
@@ -43,7 +43,7 @@ pub fn end_of<'a>(start: &'a str, len: &'a str) -> Result<Option<StdDuration>, D
     Ok(parse_duration(start)?.checked_add(parse_duration(len)?))
 }
 
-/// Returns what to underline in a text that is not a valid duration: its unknown unit, or the rest from the error's offset on.
+/// Returns what to underline in a string that is not a valid duration: its unknown unit, or the rest from the error's offset on.
 pub fn underlined(text: &str) -> &str
     ensures character { (at : ℕ) → duration_answer (chars text.now) ≡ Err (InvalidCharacter at) → result.now ≡ drop at text.now }
     ensures number { (at : ℕ) → duration_answer (chars text.now) ≡ Err (NumberExpected at) → result.now ≡ drop at text.now }
@@ -59,7 +59,7 @@ pub fn underlined(text: &str) -> &str
     }
 }
 
-/// Returns the canonical text of a duration, or its first error.
+/// Returns the canonical string of a duration, or its first error.
 pub fn normalized<'a, 'b>(s: &'a str, buf: &'b mut [u8; 64]) -> Result<&'b str, DurationError<'a>>
     ensures { (t : List ℕ) → (text_result_view result ≡ Ok t) ↔ IsCanonicalOf s.now t }
 {
@@ -74,7 +74,7 @@ pub fn is_same_error(a: &DurationError<'_>, b: &DurationError<'_>) -> bool
     *a == *b
 }
 
-/// Returns the text of a time of seconds and microseconds, or `None` if it is too long.
+/// Returns the string of a time of seconds and microseconds, or `None` if it is too long.
 pub fn shown_time<'b>(secs: u64, micros: u64, buf: &'b mut [u8; 64]) -> Option<&'b str>
     ensures within { IsSome result ↔ (secs * nanos_per_second + micros * 1000 < duration_end) }
     ensures text { IfSome result (λ text. IsCanonicalText (secs * nanos_per_second + micros * 1000) text.now) }
@@ -83,7 +83,7 @@ pub fn shown_time<'b>(secs: u64, micros: u64, buf: &'b mut [u8; 64]) -> Option<&
     Some(format_duration(time).text(buf))
 }
 
-/// Returns `true` if the text of a duration parses to that duration, which it always does.
+/// Returns `true` if the string of a duration parses to that duration, which it always does.
 pub fn comes_back(duration: StdDuration) -> bool
     ensures { result ≡ true }
 {

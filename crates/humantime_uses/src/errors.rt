@@ -1,4 +1,4 @@
-//! Errors point into their texts, and become errors of the caller.
+//! Errors point into their strings, and become errors of the caller.
 
 ghost use Rattle.std.specs.Prelude.{◌≡◌, ◌++◌, ◌+ℤ◌, ◌<ℤ◌, ℕ, ℤ, pos, chars, codes, true, IsErrAnd, IsOkAnd, List, Some, SomeIff, Ok, Err};
 ghost use Rattle.humantime.specs.declared.TimestampError.{TimestampError};
@@ -11,7 +11,7 @@ use humantime::{
 };
 use std::fmt;
 
-/// Returns `true` if an error points into its text: a character begins at its offset, or its unit is the slice between its offsets.
+/// Returns `true` if an error points into its string: a character begins at its offset, or its unit is the slice between its offsets.
 fn is_in(error: DurationError<'_>, text: &str) -> bool
     requires { PointsInto text.now error }
     ensures { result ≡ true }
@@ -30,7 +30,7 @@ fn is_in(error: DurationError<'_>, text: &str) -> bool
     }
 }
 
-/// Returns `true` if the errors of a text, if it has any, point into it, which they always do.
+/// Returns `true` if the errors of a string, if it has any, point into it, which they always do.
 pub fn points_into(text: &str) -> bool
     ensures { result ≡ true }
 {

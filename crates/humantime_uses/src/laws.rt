@@ -20,7 +20,7 @@ use std::cmp::Ordering;
 /// What a parser of timestamps returns.
 pub type Parsed = Result<SystemTime, TimestampError>;
 
-/// Parses a text. It has one value or one error, which the result is, one list of items, and at most one list of spans.
+/// Parses a string. It has one value or one error, which the result is, one list of items, and at most one list of spans.
 pub fn decided_once(text: &str) -> Result<StdDuration, DurationError<'_>>
     ensures outcome { ExactlyOne (IsOutcome (chars text.now)) }
     ensures reading { (ss : List SpelledSpan) (ts : List SpelledSpan) → Reads (chars text.now) ss → Reads (chars text.now) ts → ss ≡ ts }
@@ -33,8 +33,8 @@ pub fn decided_once(text: &str) -> Result<StdDuration, DurationError<'_>>
     parse_duration(text)
 }
 
-/// Returns the duration that a text denotes, or its first error, as determined by its items and their limits and by the table of first
-/// errors. A text that was accepted by older rules is still accepted with the same value, and any spans add what they added.
+/// Returns the duration that a string denotes, or its first error, as determined by its items and their limits and by the table of first
+/// errors. A string that was accepted by older rules is still accepted with the same value, and any spans add what they added.
 pub fn decided(text: &str) -> Result<StdDuration, DurationError<'_>>
     ensures items { (ss : List SpelledSpan) × (stop : Option Fault) × Items (chars text.now) ss stop }
     ensures accepted { (ss : List SpelledSpan) (stop : Option Fault) → Items (chars text.now) ss stop → chars text.now ≢ bare_zero → (v : ℕ) → Accepted (chars text.now) v ↔ ((stop ≡ None) × WithinLimits ss × (value ss ≡ v)) }
@@ -52,7 +52,7 @@ pub fn decided(text: &str) -> Result<StdDuration, DurationError<'_>>
     parse_duration(text)
 }
 
-/// Returns the canonical text of a duration. There is exactly one, and it has at most 64 bytes, 11 months and 30 days.
+/// Returns the canonical string of a duration. There is exactly one, and it has at most 64 bytes, 11 months and 30 days.
 pub fn canonical_text<'b>(duration: StdDuration, buf: &'b mut [u8; 64]) -> &'b str
     ensures text { result.now ≡ duration_text duration }
     ensures only { (bytes : List ℕ) → IsCanonicalText duration bytes → bytes ≡ duration_text duration }
@@ -64,7 +64,7 @@ pub fn canonical_text<'b>(duration: StdDuration, buf: &'b mut [u8; 64]) -> &'b s
     format_duration(duration).text(buf)
 }
 
-/// Parses the canonical text of a duration, which returns that duration.
+/// Parses the canonical string of a duration, which returns that duration.
 #[tactic(auto, using(humantime::proofs::Theorems::value_of_view))]
 pub fn read_back(text: &str, duration: StdDuration) -> Result<StdDuration, DurationError<'_>>
     ensures { IsCanonicalText duration text.now → result ≡ Ok duration }
@@ -73,7 +73,7 @@ pub fn read_back(text: &str, duration: StdDuration) -> Result<StdDuration, Durat
     parse_duration(text)
 }
 
-/// Returns `true` if two durations have the same text, which they have only if they are equal.
+/// Returns `true` if two durations have the same string, which they have only if they are equal.
 pub fn looks_same(a: StdDuration, b: StdDuration) -> bool
     ensures { IsTrue result ↔ (a ≡ b) }
 {
@@ -81,7 +81,7 @@ pub fn looks_same(a: StdDuration, b: StdDuration) -> bool
     format_duration(a).text(&mut [0; 64]) == format_duration(b).text(&mut [0; 64])
 }
 
-/// Returns `true` if the canonical text of an accepted text is its own canonical text, which it always is. It has the same value.
+/// Returns `true` if the canonical string of an accepted string is its own canonical string, which it always is. It has the same value.
 pub fn is_canonical_twice(text: &str) -> bool
     ensures same { result ≡ true }
     ensures some { (v : ℕ) → Accepted (chars text.now) v → (t : List ℕ) × IsCanonicalOf text.now t }
@@ -109,7 +109,7 @@ pub fn needs_no_space(text: &str, squeezed: &str) -> bool
     }
 }
 
-/// Parses two accepted texts that were joined. They have the sum of their values if no addition overflows, and otherwise overflow.
+/// Parses two accepted strings that were joined. They have the sum of their values if no addition overflows, and otherwise overflow.
 pub fn sum_of<'a>(a: &str, b: &str, both: &'a str) -> Result<StdDuration, DurationError<'a>>
     ensures first { IsZeroOrSpans (chars a.now) }
     ensures second { IsZeroOrSpans (chars b.now) }
@@ -122,7 +122,7 @@ pub fn sum_of<'a>(a: &str, b: &str, both: &'a str) -> Result<StdDuration, Durati
     parse_duration(both)
 }
 
-/// Returns `true` if two texts have the same value, or one of them has none. They do if their spans are the same up to their order.
+/// Returns `true` if two strings have the same value, or one of them has none. They do if their spans are the same up to their order.
 pub fn read_alike(a: &str, b: &str) -> bool
     ensures spans { (ss : List SpelledSpan) (ts : List SpelledSpan) → Reads (chars a.now) ss → Reads (chars b.now) ts → IsPermutation ss ts → result ≡ true }
     ensures texts { AreReordered (chars a.now) (chars b.now) → result ≡ true }
@@ -135,7 +135,7 @@ pub fn read_alike(a: &str, b: &str) -> bool
     }
 }
 
-/// Parses a text in both forms. A text has parts in a form if and only if it fails no check there, and then only these.
+/// Parses a string in both forms. A string has parts in a form if and only if it fails no check there, and then only these.
 pub fn in_both_forms(text: &str) -> (Parsed, Parsed)
     ensures weak { (t : ℤ) → (result.0 ≡ Ok t) ↔ ((f : Fields) × IsWeak text.now f × (t ≡ pos (moment_of f))) }
     ensures strict { (t : ℤ) → (result.1 ≡ Ok t) ↔ ((f : Fields) × IsStrict text.now f × (t ≡ pos (moment_of f))) }
@@ -150,7 +150,7 @@ pub fn in_both_forms(text: &str) -> (Parsed, Parsed)
     (parse_rfc3339_weak(text), parse_rfc3339(text))
 }
 
-/// Returns `true` if a text has a `T` and a zone.
+/// Returns `true` if a string has a `T` and a zone.
 pub fn is_marked(text: &str) -> bool
     ensures { IsTrue result ↔ IsMarked text.now }
 {
@@ -158,7 +158,7 @@ pub fn is_marked(text: &str) -> bool
     bytes.len() > 10 && bytes[10] == b'T' && (bytes.ends_with(b"Z") || bytes.ends_with(b"+00:00"))
 }
 
-/// Parses a text in the strict form, which is the weak form with a `T` and a zone.
+/// Parses a string in the strict format, which is the weak format with a `T` and a zone.
 pub fn strict_moment(text: &str) -> Parsed
     ensures parts { (f : Fields) → IsStrict text.now f ↔ (IsMarked text.now × IsWeak text.now f) }
     ensures moment { (t : ℤ) → IsStrictMoment text.now t ↔ (IsMarked text.now × IsWeakMoment text.now t) }
@@ -168,7 +168,7 @@ pub fn strict_moment(text: &str) -> Parsed
     parse_rfc3339(text)
 }
 
-/// Prints a moment with nine digits and parses the text in both forms, which returns that moment.
+/// Prints a moment with nine digits and parses the string in both forms, which returns that moment.
 pub fn printed_and_parsed(moment: SystemTime) -> Option<(Parsed, Parsed)>
     ensures { SomeIff result (IsPrintable moment) (Ok moment, Ok moment) }
 {
@@ -179,7 +179,7 @@ pub fn printed_and_parsed(moment: SystemTime) -> Option<(Parsed, Parsed)>
     Some((parse_rfc3339(text), parse_rfc3339_weak(text)))
 }
 
-/// Returns the text of a timestamp of 1970 to 9999, which is the only one, and which `Display` writes.
+/// Returns the string of a timestamp of 1970 to 9999, which is the only one, and which `Display` writes.
 pub fn only_text<'b>(shown: &Rfc3339Timestamp, buf: &'b mut [u8; 30]) -> Option<&'b str>
     ensures one { IsPrintable shown.now.moment → ExactlyOne (IsPrinted shown.now.moment shown.now.places) }
     ensures displayed { (text : List ℕ) → (printed_text shown.now ≡ Some text) ↔ (IsPrintable shown.now.moment × IsPrinted shown.now.moment shown.now.places text) }
@@ -189,7 +189,7 @@ pub fn only_text<'b>(shown: &Rfc3339Timestamp, buf: &'b mut [u8; 30]) -> Option<
     shown.text(buf)
 }
 
-/// Compares two texts with the same number of digits, which are ordered like their moments, rounded down.
+/// Compares two strings with the same number of digits, which are ordered like their moments, rounded down.
 pub fn order_of_texts(text: &str, other: &str, a: SystemTime, b: SystemTime) -> Ordering
     ensures order { (k : ℕ) → IsPrinted a k text.now → IsPrinted b k other.now → result ≡ int_cmp (cut a k) (cut b k) }
     ensures nanos { IsPrinted a 9 text.now → IsPrinted b 9 other.now → (IsTrue (is_lt result) ↔ (a <ℤ b)) }

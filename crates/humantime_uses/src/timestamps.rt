@@ -47,7 +47,7 @@ pub fn stamp_string(alloc: Global, moment: SystemTime) -> Result<String, AllocEr
     format!(in alloc; "{}", format_rfc3339(moment))
 }
 
-/// Returns `true` if a text is the printed text, with milliseconds, of the moment that it parses to.
+/// Returns `true` if a string is the printed string, with milliseconds, of the moment that it parses to.
 pub fn is_stamp(text: &str) -> bool
     ensures { IsTrue result ↔ IsPrintedWith 3 text.now }
 {
@@ -83,7 +83,7 @@ pub fn is_between(stamp: &str, from: &str, to: &str) -> bool
     (from..to).contains(&stamp)
 }
 
-/// Parses a timestamp in any form, and prints it with microseconds, so that texts are in the order of their moments.
+/// Parses a timestamp in any form, and prints it with microseconds, so that strings are in the order of their moments.
 pub fn sortable_stamp<'b>(
     text: &str,
     buf: &'b mut [u8; 30],

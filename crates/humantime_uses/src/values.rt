@@ -80,7 +80,7 @@ pub fn printed_values(
     (*duration.get_ref(), *stamp.get_ref())
 }
 
-/// Returns `true` if the wrappers parse a text as the functions do, which they always do.
+/// Returns `true` if the wrappers parse a string as the functions do, which they always do.
 pub fn is_parsed_alike(text: &str) -> bool
     ensures { result ≡ true }
 {
