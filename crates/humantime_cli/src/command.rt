@@ -1,13 +1,14 @@
 //! Runs one command: parses its argument, and writes the result or an error message.
 
 ghost use Rattle.std.specs.Prelude.{[], unwrap_or, Some, IsSome, IfOk, IfErr};
-ghost use Rattle.std.specs.Result.{result_map_both};
+ghost use Rattle.std.specs.Result.{result_map_both, result_unwrap_or};
 ghost use Rattle.humantime_cli.specs.Answers.{texts, streams, Ends, EndsWith, OneAnswer};
 
 use crate::writing::write_line;
-use humantime::{Duration, Timestamp, parse_rfc3339, parse_rfc3339_weak};
-use std::fmt::Display;
+use humantime::{Duration, Timestamp, parse_rfc3339};
+use std::fmt::{self, Display};
 use std::io::Write;
+use std::str::FromStr;
 
 mod callers;
 
@@ -65,30 +66,40 @@ pub fn run<O: Write, E: Write>(words: &[&str], out: &mut O, err: &mut E) -> u8
         (streams (O.contents out.new) (E.contents err.new)) }
     ensures one { OneAnswer (texts words.now) }
 {
+    answer(words, out, err).unwrap_or(FAILED)
+}
+
+/// Writes the answer to the arguments, and returns the status if no write fails.
+#[inline(always)]
+fn answer<O: Write, E: Write>(words: &[&str], out: &mut O, err: &mut E) -> Result<u8, fmt::Error>
+    ensures { Ends (texts words.now) (result_unwrap_or result 3) (streams (O.contents out.old) (E.contents err.old))
+        (streams (O.contents out.new) (E.contents err.new)) }
+{
     match words {
-        ["duration", text] => write_answer(&Duration::from_str(text), out, err),
-        ["strict", text] => write_answer(&parse_rfc3339(text).map(Timestamp::from), out, err),
-        ["weak", text] => write_answer(&parse_rfc3339_weak(text).map(Timestamp::from), out, err),
-        _ => write_line(err, USAGE).and(Ok(MISUSED)).unwrap_or(FAILED),
+        ["duration", text] => write_result(&Duration::from_str(text), out, err),
+        ["strict", text] => write_result(&parse_rfc3339(text).map(Timestamp::from), out, err),
+        ["weak", text] => write_result(&Timestamp::from_str(text), out, err),
+        _ => write_line(err, USAGE).and(Ok(MISUSED)),
     }
 }
 
-/// Writes the value to `out`, or the error to `err`, and returns the status.
+/// Writes the value to `out`, or the error to `err`, and returns the status if no write fails.
 ///
 /// It takes a reference, because the prover does not accept a call with a `Result<Duration, DurationError<'_>>` by value.
 #[inline(always)]
-fn write_answer<O: Write, E: Write, V: Display + Copy, F: Display + Copy>(
+fn write_result<O: Write, E: Write, V: Display + Copy, F: Display + Copy>(
     parsed: &Result<V, F>,
     out: &mut O,
     err: &mut E,
-) -> u8
+) -> Result<u8, fmt::Error>
     requires value { IfOk parsed.now (λ v. IsSome (V.output v)) }
     requires error { IfErr parsed.now (λ e. IsSome (F.output e)) }
-    ensures { EndsWith (Some (result_map_both (λ v. unwrap_or (V.output v) []) (λ e. unwrap_or (F.output e) []) parsed.now)) result
-        (streams (O.contents out.old) (E.contents err.old)) (streams (O.contents out.new) (E.contents err.new)) }
+    ensures { EndsWith (Some (result_map_both (λ v. unwrap_or (V.output v) []) (λ e. unwrap_or (F.output e) []) parsed.now))
+        (result_unwrap_or result 3) (streams (O.contents out.old) (E.contents err.old))
+        (streams (O.contents out.new) (E.contents err.new)) }
 {
     match parsed {
-        Ok(value) => write_line(out, *value).and(Ok(ACCEPTED)).unwrap_or(FAILED),
-        Err(error) => write_line(err, *error).and(Ok(REJECTED)).unwrap_or(FAILED),
+        Ok(value) => write_line(out, *value).and(Ok(ACCEPTED)),
+        Err(error) => write_line(err, *error).and(Ok(REJECTED)),
     }
 }

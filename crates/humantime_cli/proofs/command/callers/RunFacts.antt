@@ -1,15 +1,13 @@
 -- What a caller of `run` can conclude for known arguments, if the bytes of both writers are known. The callers in the tests cite these
 -- facts. Each of them fails to prove if a definition or a clause of `run` is weakened.
-use Rattle.std.proofs.Common.{arith, ◌≡◌, ◌≢◌, ◌<◌, ℕ, ◌+◌, ◌*◌, List, [], ◌∷◌, ◌++◌, length, take, subst, inl, inr, refl, ◌∙◌, append-nil}
-use Rattle.std.specs.Prelude.{ℤ, pos, None, Some, Ok, Err, codes}
+use Rattle.std.proofs.Common.{arith, ◌≡◌, ◌≢◌, ◌<◌, ℕ, ◌*◌, List, [], ◌∷◌, ◌++◌, length, take, subst, inl, inr, refl, ◌∙◌, append-nil}
+use Rattle.std.specs.Prelude.{ℤ, pos, Some, Ok, Err, codes}
 use Rattle.humantime.specs.declared.date.error.TimestampError.{TimestampError}
-use Rattle.humantime.specs.declared.date.error.TimestampError.TheVariants.{OutOfRange, InvalidFormat}
-use Rattle.humantime.specs.Prelude.{InvalidCharacter, nanos_per_second, moment_text, places_of, IsStrictMoment, IsWeakMoment, first_failed, strict_checks, weak_checks}
+use Rattle.humantime.specs.Prelude.{InvalidCharacter, nanos_per_second, moment_text, places_of, IsStrictMoment, first_failed, strict_checks}
 use Rattle.humantime.proofs.OnLiterals.{humantime_on_literals, timestamps_on_literals}
 use Rattle.humantime.proofs.Theorems.{canonical_again, one_stamp_outcome, printed_moment_reads, places_of_bound}
-use Rattle.humantime_cli.specs.Answers.{Answer, Answers, OneAnswer, Streams, streams, Ends, EndsWith, Whole, Cut, Duration, Strict, Weak, IsMomentOutput, outcome}
+use Rattle.humantime_cli.specs.Answers.{Answer, Answers, OneAnswer, Streams, streams, Ends, EndsWith, Whole, Cut, Duration, Strict, IsMomentOutput, outcome}
 use Rattle.humantime_cli.specs.Writes.{line}
-use Rattle.humantime_cli.proofs.AnswerLemmas.{not_two}
 
 -- If the answer to the arguments is known, the program ends with it.
 ends_with : (words : List (List ℕ)) (answer : Answer) {status : ℕ} {old new : Streams} → Answers words answer → OneAnswer words → Ends words status old new → EndsWith answer status old new
