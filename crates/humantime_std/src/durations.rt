@@ -14,65 +14,160 @@ const NANOS_PER_SECOND: u128 = 1_000_000_000;
 /// # Examples
 ///
 /// ```
-/// use humantime::{StdDuration, parse_duration};
+/// use humantime::parse_duration;
 /// use humantime_std::StdDurationExt;
-/// use std::time::Duration;
 ///
-/// let limit = StdDuration::from_std(Duration::from_millis(90_500));
-/// assert_eq!(rt; limit, parse_duration("1m 30s 500ms")?);
-/// assert_eq!(rt; limit.to_std(), Duration::from_millis(90_500));
-/// assert_eq!(rt; (limit.as_millis(), limit.as_nanos()), (90_500, 90_500_000_000));
-/// assert_eq!(rt; StdDuration::checked_from_nanos_u128(90_500_000_000), Some(limit));
-/// assert_eq!(rt; StdDuration::checked_from_nanos_u128(StdDuration::MAX.as_nanos() + 1), None);
-/// assert!(rt; StdDuration::ZERO.is_zero() && !limit.is_zero());
-///
-/// let short = StdDuration::new(60, 1);
-/// assert_eq!(rt; limit.checked_sub(short), Some(StdDuration::new(30, 499_999_999)));
-/// assert_eq!(rt; short.checked_sub(limit), None);
-/// assert_eq!(rt; short.saturating_sub(limit), StdDuration::ZERO);
-///
-/// assert_eq!(rt; limit.checked_mul(2), Some(parse_duration("3m 1s")?));
-/// assert_eq!(rt; StdDuration::MAX.checked_mul(2), None);
-/// assert_eq!(rt; limit.checked_div(4), Some(parse_duration("22.625s")?));
-/// assert_eq!(rt; limit.checked_div(0), None);
-/// assert_eq!(rt; limit.checked_div_duration(short), Some(1));
-/// assert_eq!(rt; limit.checked_div_duration(StdDuration::ZERO), None);
-///
-/// // A share in percent. No product overflows.
-/// assert_eq!(rt; (short.as_nanos() * 100).checked_div(limit.as_nanos()), Some(66));
+/// let limit = parse_duration("1m 30s")?;
+/// let left = limit.saturating_sub(parse_duration("80s")?);
+/// assert_eq!(rt; left.as_millis(), 10_000);
 /// ```
 pub trait StdDurationExt: Sized {
     /// Converts a duration of std.
+    ///
+    /// # Examples
+    ///
+    /// ```
+    /// use humantime::StdDuration;
+    /// use humantime_std::StdDurationExt;
+    /// use std::time::Duration;
+    ///
+    /// let duration = StdDuration::from_std(Duration::from_millis(9_420_500));
+    /// assert_eq!(rt; duration, StdDuration::new(9420, 500_000_000));
+    /// ```
     fn from_std(duration: time::Duration) -> Self;
 
     /// Converts this duration to one of std.
+    ///
+    /// # Examples
+    ///
+    /// ```
+    /// use humantime::parse_duration;
+    /// use humantime_std::StdDurationExt;
+    /// use std::time::Duration;
+    ///
+    /// let timeout = parse_duration("2h 37min 500ms")?.to_std();
+    /// assert_eq!(rt; timeout, Duration::from_millis(9_420_500));
+    /// ```
     fn to_std(self) -> time::Duration;
 
     /// Creates a duration of a number of nanoseconds, or returns `None` if it is longer than `MAX`.
+    ///
+    /// # Examples
+    ///
+    /// ```
+    /// use humantime::StdDuration;
+    /// use humantime_std::StdDurationExt;
+    ///
+    /// assert_eq!(rt; StdDuration::checked_from_nanos_u128(90_000_000_005), Some(StdDuration::new(90, 5)));
+    /// assert_eq!(rt; StdDuration::checked_from_nanos_u128(18_446_744_073_709_551_616_000_000_000), None);
+    /// ```
     fn checked_from_nanos_u128(nanos: u128) -> Option<Self>;
 
     /// Returns this duration in nanoseconds.
+    ///
+    /// # Examples
+    ///
+    /// ```
+    /// use humantime::StdDuration;
+    /// use humantime_std::StdDurationExt;
+    ///
+    /// assert_eq!(rt; StdDuration::MAX.as_nanos(), 18_446_744_073_709_551_615_999_999_999);
+    /// ```
     fn as_nanos(self) -> u128;
 
     /// Returns the whole milliseconds of this duration.
+    ///
+    /// # Examples
+    ///
+    /// ```
+    /// use humantime::parse_duration;
+    /// use humantime_std::StdDurationExt;
+    ///
+    /// assert_eq!(rt; parse_duration("1s 2ms 999us")?.as_millis(), 1002);
+    /// ```
     fn as_millis(self) -> u128;
 
     /// Returns `true` if this duration is zero.
+    ///
+    /// # Examples
+    ///
+    /// ```
+    /// use humantime::StdDuration;
+    /// use humantime_std::StdDurationExt;
+    ///
+    /// assert!(rt; StdDuration::ZERO.is_zero());
+    /// assert!(rt; !StdDuration::new(0, 1).is_zero());
+    /// ```
     fn is_zero(self) -> bool;
 
     /// Subtracts another duration, or returns `None` if the difference is negative.
+    ///
+    /// # Examples
+    ///
+    /// ```
+    /// use humantime::StdDuration;
+    /// use humantime_std::StdDurationExt;
+    ///
+    /// let long = StdDuration::from_secs(90);
+    /// assert_eq!(rt; long.checked_sub(StdDuration::new(60, 1)), Some(StdDuration::new(29, 999_999_999)));
+    /// assert_eq!(rt; StdDuration::ZERO.checked_sub(long), None);
+    /// ```
     fn checked_sub(self, other: Self) -> Option<Self>;
 
     /// Subtracts another duration, or returns zero if the difference is negative.
+    ///
+    /// # Examples
+    ///
+    /// ```
+    /// use humantime::StdDuration;
+    /// use humantime_std::StdDurationExt;
+    ///
+    /// assert_eq!(rt; StdDuration::from_secs(60).saturating_sub(StdDuration::from_secs(90)), StdDuration::ZERO);
+    /// ```
     fn saturating_sub(self, other: Self) -> Self;
 
     /// Multiplies this duration by a number, or returns `None` if the product is longer than `MAX`.
+    ///
+    /// # Examples
+    ///
+    /// ```
+    /// use humantime::{StdDuration, parse_duration};
+    /// use humantime_std::StdDurationExt;
+    ///
+    /// assert_eq!(rt; parse_duration("1m 30s")?.checked_mul(3), Some(parse_duration("4m 30s")?));
+    /// assert_eq!(rt; StdDuration::MAX.checked_mul(2), None);
+    /// ```
     fn checked_mul(self, factor: u64) -> Option<Self>;
 
     /// Divides this duration by a number and truncates to nanoseconds, or returns `None` if the number is zero.
+    ///
+    /// # Examples
+    ///
+    /// ```
+    /// use humantime::parse_duration;
+    /// use humantime_std::StdDurationExt;
+    ///
+    /// let total = parse_duration("10s")?;
+    /// assert_eq!(rt; total.checked_div(3), Some(parse_duration("3.333333333s")?));
+    /// assert_eq!(rt; total.checked_div(0), None);
+    /// ```
     fn checked_div(self, divisor: u64) -> Option<Self>;
 
     /// Returns how many times another duration fits into this one, or `None` if it is zero.
+    ///
+    /// A share in percent is `(part.as_nanos() * 100).checked_div(whole.as_nanos())`, where no product overflows.
+    ///
+    /// # Examples
+    ///
+    /// ```
+    /// use humantime::{StdDuration, parse_duration};
+    /// use humantime_std::StdDurationExt;
+    ///
+    /// let (part, whole) = (parse_duration("25min")?, parse_duration("1h")?);
+    /// assert_eq!(rt; whole.checked_div_duration(part), Some(2));
+    /// assert_eq!(rt; (part.as_nanos() * 100).checked_div(whole.as_nanos()), Some(41));
+    /// assert_eq!(rt; whole.checked_div_duration(StdDuration::ZERO), None);
+    /// ```
     fn checked_div_duration(self, other: Self) -> Option<u128>;
 }
 

@@ -16,27 +16,55 @@ const NANOS_PER_SECOND: u32 = 1_000_000_000;
 /// # Examples
 ///
 /// ```
-/// use humantime::{StdDuration, SystemTime, parse_rfc3339};
+/// use humantime::{parse_duration, parse_rfc3339};
 /// use humantime_std::SystemTimeExt;
-/// use std::time::{Duration, UNIX_EPOCH};
 ///
-/// let time = parse_rfc3339("2018-02-14T00:28:07.000000005Z")?;
-/// let same = UNIX_EPOCH + Duration::new(1_518_568_087, 5);
-/// assert_eq!(rt; time.to_std(), Some(same));
-/// assert_eq!(rt; SystemTime::from_std(same), Some(time));
-/// assert_eq!(rt; time.checked_sub(StdDuration::new(7, 5)), Some(parse_rfc3339("2018-02-14T00:28:00Z")?));
-///
-/// let first = SystemTime::from_parts(i64::MIN, 0).ok_or("too many nanoseconds")?;
-/// assert_eq!(rt; (first.to_std(), first.checked_sub(StdDuration::new(0, 1))), (None, None));
+/// let time = parse_rfc3339("2018-02-14T00:28:07Z")?;
+/// let hour_before = parse_rfc3339("2018-02-13T23:28:07Z")?;
+/// assert_eq!(rt; time.checked_sub(parse_duration("1h")?), Some(hour_before));
 /// ```
 pub trait SystemTimeExt: Sized {
     /// Converts a time of std, or returns `None` if it is 2^63 seconds or more after 1970. No clock of std returns such a time.
+    ///
+    /// # Examples
+    ///
+    /// ```
+    /// use humantime::SystemTime;
+    /// use humantime_std::SystemTimeExt;
+    /// use std::time::{Duration, UNIX_EPOCH};
+    ///
+    /// let time = UNIX_EPOCH + Duration::new(1_518_568_087, 5);
+    /// assert_eq!(rt; SystemTime::from_std(time), SystemTime::from_parts(1_518_568_087, 5));
+    /// ```
     fn from_std(time: time::SystemTime) -> Option<Self>;
 
     /// Converts this time to one of std, or returns `None` if it is before 1970, where std's `SystemTime` begins in Rattle.
+    ///
+    /// # Examples
+    ///
+    /// ```
+    /// use humantime::{SystemTime, parse_rfc3339};
+    /// use humantime_std::SystemTimeExt;
+    /// use std::time::{Duration, UNIX_EPOCH};
+    ///
+    /// let time = parse_rfc3339("2018-02-14T00:28:07.000000005Z")?;
+    /// assert_eq!(rt; time.to_std(), Some(UNIX_EPOCH + Duration::new(1_518_568_087, 5)));
+    /// let before = SystemTime::from_parts(-1, 999_999_999).ok_or("too many nanoseconds")?;
+    /// assert_eq!(rt; before.to_std(), None);
+    /// ```
     fn to_std(self) -> Option<time::SystemTime>;
 
     /// Subtracts a duration, or returns `None` if the difference is more than 2^63 seconds before 1970.
+    ///
+    /// # Examples
+    ///
+    /// ```
+    /// use humantime::{StdDuration, SystemTime};
+    /// use humantime_std::SystemTimeExt;
+    ///
+    /// let first = SystemTime::from_parts(i64::MIN, 0).ok_or("too many nanoseconds")?;
+    /// assert_eq!(rt; first.checked_sub(StdDuration::new(0, 1)), None);
+    /// ```
     fn checked_sub(self, duration: StdDuration) -> Option<Self>;
 }
 
