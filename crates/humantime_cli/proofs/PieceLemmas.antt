@@ -1,8 +1,8 @@
 -- Lemmas about a piece of a text, and about a line that is written piece by piece.
-use Rattle.std.proofs.Common.{arith, take_all, take-append-drop, append_assoc, append-nil, ◌≡◌, ℕ, zero, suc, List, [], ◌∷◌, ◌++◌, ◌≤◌, ◌<◌, ◌+◌, ◌-◌, refl, sym, ap, ap₂, ◌∙◌, take, drop, min, subst, length, length-append, length-take, length-drop}
+use Rattle.std.proofs.Common.{arith, take_all, take-append-drop, append_assoc, append-nil, ◌≡◌, ℕ, zero, suc, List, [], ◌∷◌, ◌++◌, ◌≤◌, ◌<◌, ◌+◌, ◌-◌, refl, sym, ap, ◌∙◌, take, drop, min, subst, length, length-append, length-take, length-drop}
 use Rattle.std.proofs.KnownBytes.{Appends-trans}
-use Rattle.std.proofs.Math.Seq.{take-add, drop-append-add}
-use Rattle.std.proofs.lemmas.List.{drop-append-le, drop-drop, take-append-le, take-take}
+use Rattle.std.proofs.Math.Seq.{take-add}
+use Rattle.std.proofs.lemmas.List.{take_min, drop_min, take-take}
 use Rattle.std.specs.Fmt.{WritesText}
 use Rattle.std.specs.Io.KnownBytes.{Appends}
 use Rattle.std.specs.List.{FoldsTo, concat}
@@ -11,7 +11,6 @@ use Rattle.humantime_cli.specs.Pieces.{IsPiece, AddsText}
 use Rattle.humantime_cli.specs.Writes.{line}
 use Rattle.humantime_cli.specs.declared.piece.Piece.{Piece}
 use Rattle.std.proofs.lemmas.Bool.Decides.{nat_tests}
-use Rattle.std.proofs.lemmas.Grind.{common_steps}
 
 -- Texts that were added one after the other are one text.
 adds_all : (old : Piece) (texts : List (List ℕ)) (new : Piece) → FoldsTo AddsText old texts new → AddsText old (concat texts) new
@@ -19,18 +18,16 @@ adds_all old [] new same start text is = rw (append-nil text) (subst (IsPiece st
 adds_all old (x ∷ xs) new (mid, first, rest) start text is =
     rw (sym (append_assoc text x (concat xs))) (adds_all mid xs new rest start (text ++ x) (first start text is))
 
--- The first bytes from an offset on are the same if more text is added behind them.
-front_same : (start n : ℕ) (text s : List ℕ) → (0 < n → start + n ≤ length text) → take n (drop start text) ≡ take n (drop start (text ++ s))
-front_same start zero text s within = refl
-front_same start (suc n) text s within =
-    grind (arith, within, (drop-append-le start text s), (take-append-le (suc n) (drop start text) s), (length-drop start text))
+-- The first bytes of two texts in a row, and what follows them.
+take_both : (n : ℕ) (xs ys : List ℕ) → take n (xs ++ ys) ≡ take n xs ++ take (n - length xs) ys
+take_both zero xs ys = grind arith
+take_both (suc n) [] ys = let whole : suc n - 0 ≡ suc n = omega arith in rw whole refl
+take_both (suc n) (x ∷ xs) ys = grind (arith, (take_both n xs ys))
 
--- The bytes that are added to a piece that is not full, from the offset `skip` of the added text on.
-more_same : (start len skip count : ℕ) (text s : List ℕ) → (0 < count → skip + length text ≡ start + len)
-    → take count (drop skip s) ≡ take count (drop len (drop start (text ++ s)))
-more_same start len skip zero text s reached = refl
-more_same start len skip (suc n) text s reached =
-    grind (arith, reached, (drop-drop len start (text ++ s)), (drop-append-add text s skip))
+drop_both : (n : ℕ) (xs ys : List ℕ) → drop n (xs ++ ys) ≡ drop n xs ++ drop (n - length xs) ys
+drop_both zero xs ys = grind arith
+drop_both (suc n) [] ys = let whole : suc n - 0 ≡ suc n = omega arith in rw whole refl
+drop_both (suc n) (x ∷ xs) ys = grind (arith, (drop_both n xs ys))
 
 -- As much of a text was added to a piece as fits.
 pub longer_piece : (start skipped count : ℕ) (text s : List ℕ) (old new : Piece) → IsPiece start text old → skipped ≡ min old.skip (length s)
@@ -39,13 +36,14 @@ pub longer_piece : (start skipped count : ℕ) (text s : List ℕ) (old new : Pi
     → take new.len new.bytes ≡ take old.len old.bytes ++ take count (drop skipped s) → IsPiece start (text ++ s) new
 longer_piece start skipped count text s old new is most fit skip len cut bytes =
     let longer = length-append text s in
-    let reached : 0 < count → skipped + length text ≡ start + old.len = grind (arith, nat_tests, is, old.in_range) in
+    let rest : drop skipped s ≡ drop (start - length text) s = rw (most, is.skip, drop_min) refl in
+    let size : count ≡ min (192 - length (drop start text)) (length (drop skipped s)) = omega (arith, is.len, length-drop start text, length-drop skipped s) in
+    let few : take count (drop skipped s) ≡ take (192 - length (drop start text)) (drop (start - length text) s) = rw (size, take_min, rest) refl in
     record {
-      all = grind (arith, nat_tests, is, longer);
-      cut = grind (arith, nat_tests, is, longer, old.in_range);
-      within = grind (arith, nat_tests, is, longer);
-      bytes = bytes ∙ ap₂ (λ (x y : List ℕ). x ++ y) (is.bytes ∙ front_same start old.len text s is.within) (more_same start old.len skipped count text s reached)
-          ∙ sym (take-add old.len count (drop start (text ++ s))) ∙ ap (λ (n : ℕ). take n (drop start (text ++ s))) (sym len);
+      skip = grind (arith, is, longer);
+      len = grind (arith, is, longer);
+      cut = grind (arith, nat_tests, is, longer);
+      bytes = bytes ∙ rw (is.bytes, few, drop_both start text s, take_both 192 (drop start text) (drop (start - length text) s)) refl;
     }
 
 -- A value and a line feed were displayed.
@@ -60,14 +58,16 @@ pub more_written : (old mid new : Option (List ℕ)) (text bytes : List ℕ) (do
     → done < length text → count ≤ length bytes → (count ≡ length bytes → piece.is_cut ≡ true) → Appends old mid (take done text) → Appends mid new (take count bytes)
     → (done + count < length text) × Appends old new (take (done + count) text)
 more_written old mid new text bytes done count piece is shown some few cut taken more =
-    let size : length bytes ≤ piece.len = omega (arith, ap length shown, length-take piece.len piece.bytes) in
-    let first = ap (take count) (shown ∙ is.bytes) ∙ take-take count piece.len (drop done text) (omega (arith, few, size)) in
+    let size : length bytes ≡ min 192 (length text - done) = rw (shown, is.bytes, length-take, length-drop) refl in
+    let first = ap (take count) (shown ∙ is.bytes) ∙ take-take count 192 (drop done text) (omega (arith, few, size)) in
     let whole = ap (λ (rest : List ℕ). take done text ++ rest) first ∙ sym (take-add done count text) in
-    (grind (arith, is, size, cut), subst (Appends old new) whole (Appends-trans old mid new _ _ taken more))
+    (grind (arith, nat_tests, is, size, cut), subst (Appends old new) whole (Appends-trans old mid new _ _ taken more))
 
 -- After the first bytes of a text, all of a piece that is not cut were written: so the text is written.
 pub all_written : (old mid new : Option (List ℕ)) (text bytes : List ℕ) (done count : ℕ) (piece : Piece) → IsPiece done text piece → bytes ≡ take piece.len piece.bytes
     → done < length text → count ≡ length bytes → piece.is_cut ≡ false → Appends old mid (take done text) → Appends mid new (take count bytes) → Appends old new text
 all_written old mid new text bytes done count piece is shown some all whole taken more =
-    let same : take done text ++ take count bytes ≡ text = grind (arith, common_steps, is, take-take, take_all, length-take, length-drop, take-append-drop) in
+    let short : length text - done ≤ 192 = grind (arith, nat_tests, is.cut, whole) in
+    let rest = take_all count bytes (omega arith) ∙ shown ∙ is.bytes ∙ take_all 192 (drop done text) (omega (arith, short, length-drop done text)) in
+    let same = ap (λ (r : List ℕ). take done text ++ r) rest ∙ take-append-drop done text in
     subst (Appends old new) same (Appends-trans old mid new _ _ taken more)

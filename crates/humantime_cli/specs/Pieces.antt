@@ -1,14 +1,14 @@
 -- A piece of a text, from an offset on.
-use Rattle.std.specs.Prelude.{◌≡◌, ℕ, ◌+◌, ◌<◌, ◌≤◌, true, false, List, ◌++◌, length, take, drop}
+use Rattle.std.specs.Prelude.{◌≡◌, ℕ, ◌-◌, List, ◌++◌, length, take, drop, min, nat_lt}
 use Rattle.humantime_cli.specs.declared.piece.Piece.{Piece}
 
--- The piece has the bytes of the text from the offset on, or the first 192 of them if it is cut. `skip` is the number of bytes that the text
--- lacks to reach the offset.
+-- The piece has the first 192 bytes of the text from the offset on, or all of them if there are no more, and otherwise is cut. `skip` is the
+-- number of bytes that the text lacks to reach the offset.
 pub record IsPiece (start : ℕ) (text : List ℕ) (piece : Piece) : Type 0 where
-  pub all : piece.is_cut ≡ false → piece.skip + length text ≡ start + piece.len
-  pub cut : piece.is_cut ≡ true → (piece.len ≡ 192) × (start + piece.len < length text)
-  pub within : 0 < piece.len → start + piece.len ≤ length text
-  pub bytes : take piece.len piece.bytes ≡ take piece.len (drop start text)
+  pub skip : piece.skip ≡ start - length text
+  pub len : piece.len ≡ min 192 (length text - start)
+  pub cut : piece.is_cut ≡ nat_lt 192 (length text - start)
+  pub bytes : take piece.len piece.bytes ≡ take 192 (drop start text)
 
 -- The bytes were appended to the text.
 abbrev pub AddsText : Piece → List ℕ → Piece → Type 0
