@@ -34,9 +34,6 @@ pub layout_parts : (bytes : List ℕ) → has_layout bytes ≡ true → (19 ≤ 
 unfolding has_layout
 layout_parts bytes h = grind (arith, nat_tests)
 
--- The lemmas about the result after the layout, by its definition.
-pub ruleset checks_in_order = (layout_parts, common_steps, nat_tests, err_from_is_err_and, le-leb, take_rest)
-
 -- The digits after the point, if there is one.
 abbrev pub digits_behind_point : List ℕ → Option (List ℕ)
 digits_behind_point [] = None
@@ -183,7 +180,7 @@ date_time_summed bytes long digits =
     ap summed (nineteen bytes long) ∙ grind (arith, (pairs_from_test bytes digits), has_two_from_test, number_of_four, number_of_two)
 
 -- What the checks of a timestamp need, and the definitions that they open.
-pub ruleset checks = (checks_in_order)
+pub ruleset checks = (layout_parts, common_steps, nat_tests, err_from_is_err_and, le-leb, take_rest)
 
 unfoldable pub checks_open : ⊤
 unfolding has_separator has_layout weak_answer
