@@ -65,11 +65,12 @@ fn read_duration(text: &str) -> Result<StdDuration, Wrong<'_>> {
     parse_duration(text).map_err(|error| Wrong::Duration(text, error))
 }
 
+/// Reads a line with a name, the time of the last run, and an interval, which is the rest of the line. The time is parsed first.
 fn read_job(line: &str) -> Result<Job<'_>, Wrong<'_>> {
     let (name, rest) = split_word(line);
-    let (last, every) = split_word(rest);
-    let last = read_time(last)?;
-    let every = read_duration(every.trim())?;
+    let (last_text, every_text) = split_word(rest);
+    let last = read_time(last_text)?;
+    let every = read_duration(every_text.trim())?;
     Ok(Job { name, last, every })
 }
 

@@ -68,7 +68,7 @@ pub fn run(
     Ok(0)
 }
 
-/// Returns the row of a line, and the sum of its duration and the total so far.
+/// Returns the row of a line, and the sum of its duration and the total so far. The bytes of an error are counted from behind the tab.
 fn row_of(line: &str, total: StdDuration) -> Result<(Row<'_>, StdDuration), Fault<'_>> {
     let (name, text) = line.split_once('\t').ok_or(Fault::NoTab)?;
     let duration = parse_duration(text).map_err(|error| Fault::Duration(error))?;

@@ -108,9 +108,9 @@ pub(crate) fn split<W: fmt::Write>(f: &mut Formatter<W>, text: &str) -> fmt::Res
     write!(f, "{first:?}, {second:?}, {third:?}")
 }
 
-/// Writes the number, the fraction and the unit of a span with their whitespace as it is, its offsets and its value.
+/// Writes `Ok((NUMBER, FRACTION, UNIT, START, END, VALUE)), ` for a span, with its strings as they are: `{:?}` would write escapes.
 fn write_span<W: fmt::Write>(f: &mut Formatter<W>, span: Span<'_>) -> fmt::Result {
-    let copy = span;
+    let copy = span; // which shows that a span can be copied
     write!(f, "Ok((\"{}\", ", copy.number())?;
     match copy.fraction() {
         Some(fraction) => write!(f, "Some(\"{fraction}\")")?,

@@ -59,7 +59,7 @@ pub fn split_line(line: &str) -> (&str, &str, &str) {
     (calls, arguments, wanted)
 }
 
-/// Writes the string with each `\u{HEX}` replaced by its character, up to the first one that is not valid.
+/// Appends the string with each `\u{HEX}` replaced by its character. From the first invalid one on, it is appended as it is.
 fn unescape(text: &str, out: &mut String) -> Result<(), AllocError> {
     let mut rest = text;
     for _ in 0..text.len() {

@@ -80,15 +80,15 @@ pub fn to_json<T: Serialize>(alloc: Global, value: &T) -> Result<String, Setting
 
 /// Returns the fault of an error in a document.
 fn located(alloc: Global, text: &str, error: &serde_json::Error) -> Result<Fault, AllocError> {
-    // `MESSAGE at line 1 column 2`, which is where the value with the fault begins.
+    // `MESSAGE at line 1 column 2`, which is where the value or the key with the error begins, or where the object ends that lacks a key.
     let mut message = error.to_string(alloc)?;
     message.truncate(message.rfind(" at line ").unwrap_or(message.len()));
     let at = offset_of(text, error);
     let mut scratch = Scratch::new(alloc);
     let (path, token) = path_to(alloc, text, at, &mut scratch)?;
     match (path.last(), token) {
-        (Some(Step::Key(_, key)), _) if message.starts_with("duplicate field") => {
-            return Ok(Fault::at(*key, message));
+        (Some(Step::Key(_, start)), _) if message.starts_with("duplicate field") => {
+            return Ok(Fault::at(*start, message));
         }
         (_, Token::String(string) | Token::Key(string)) => {
             let front = text.get(at..).unwrap_or("");

@@ -31,7 +31,8 @@ struct Walk<'a> {
     made: Option<Place<'a>>,
 }
 
-/// Returns the place to which a path leads. A table that has no header or brace begins with the first key that makes it.
+/// Returns the place to which a path leads, which is one in the document's values. A table that has no header or brace begins with the first
+/// key that makes it.
 pub(crate) fn place_of<'a>(
     alloc: Global,
     document: &'a str,
@@ -107,7 +108,7 @@ impl<'a> Walk<'a> {
         }
     }
 
-    /// Goes into the value at a place.
+    /// Goes into the value at a place. Returns the place where the path ends, or `None` if it leads into an inline table.
     fn value(
         &mut self,
         mut place: Place<'a>,
@@ -124,7 +125,7 @@ impl<'a> Walk<'a> {
             };
             left = behind;
         }
-        // A path leads into a date-time, too, which is an object in JSON.
+        // Steps can be left: a date-time is an object in JSON.
         if left.is_empty() || first(place.value) != b'{' {
             return Ok(Some(place));
         }

@@ -81,7 +81,7 @@ pub fn share(part: StdDuration, whole: StdDuration) -> Option<u128>
     (part.as_nanos() * 100).checked_div(whole.as_nanos())
 }
 
-/// Returns the bytes of a string that are not those of a timestamp, or `None` if it is one.
+/// Returns the part of a string that the error of the weak parser marks, or `None` if there is no error.
 pub fn wrong_part(text: &str) -> Option<&str>
     ensures { option_map (λ part. part.now) result ≡ option_map (λ error. slice_range text.now error.start error.end) (weak_error text.now) }
 {
@@ -100,7 +100,7 @@ pub fn error_offset(error: &DurationError<'_>) -> Option<usize>
     offset(error)
 }
 
-/// Returns the bytes of a string that are wrong, or `None` if it is a duration.
+/// Returns the range that the error of a duration marks, or `None` if there is no error.
 pub fn wrong_range(text: &str) -> Option<(usize, usize)>
     ensures none { IsNone result ↔ IsOk (duration_answer (chars text.now)) }
     ensures place { (e : Fault) → duration_answer (chars text.now) ≡ Err e → IfSome result (λ range. IsFaultRange text.now e range.0 range.1) }
