@@ -1,6 +1,6 @@
 -- Lemmas that proofs of callers cite.
 use Rattle.std.proofs.Common.{◌≡◌, ℕ, ◌+◌, ◌-◌, ◌≤◌, List, [], ◌∷◌, Option, None, Some, Result, Ok, refl, sym, arith}
-use Rattle.std.specs.Prelude.{ℤ}
+use Rattle.std.specs.Prelude.{⊤, ℤ}
 use Rattle.std.specs.Cmp.Lexicographic.{slice_cmp}
 use Rattle.std.specs.Ordering.{nat_cmp, int_cmp}
 use Rattle.std.proofs.lemmas.Bool.Decides.{nat_tests}
@@ -27,6 +27,11 @@ pub month_within : (y m : ℕ) → 1970 ≤ y → y ≤ 9999 → 1 ≤ m → m �
 month_within y m late low some few = grind (arith, nat_tests, (day_at_most (record { year = y; month = m; day = days_in_month y m })))
 
 pub ruleset counted = (year_counted, month_counted, month_within, days_of_years_closed, valid_from_test)
+
+-- The days of years and of months, opened together.
+unfoldable pub days : ⊤
+unfolding days_of_years days_of_months
+days = tt
 
 -- ---- no item of a text follows an error
 

@@ -2,7 +2,7 @@
 //!
 //! It has the contracts of the library's `day_number` and `date_of_day`, so both calendars agree on every date and day. Their clause `cost`
 //! is left out: it bounds the number of iterations, so a body that counts years cannot meet it.
-#![tactic(auto, using(crate::proofs::Callers::counted), unfolding(humantime::specs::Calendar::days_of_years, humantime::specs::Calendar::days_of_months))]
+#![tactic(auto, using(crate::proofs::Callers::counted), unfolding(crate::proofs::Callers::days))]
 
 ghost use Rattle.std.specs.Prelude.{◌≡◌, ◌≤◌, ◌↔◌, IsSome, IfSome};
 ghost use Rattle.humantime.specs.Calendar.{days_in_month};
