@@ -1,16 +1,10 @@
 -- The next run of a job.
-use Rattle.std.proofs.Common.{◌≡◌, ◌↔◌, ℕ, ◌+◌, ◌-◌, ◌*◌, ◌/◌, ◌%◌, ◌<◌, ◌≤◌, ℤ, pos, ◌+ℤ◌, ◌≤ℤ◌, ◌<ℤ◌, Option, None, Some, IsNone, IfSome, SomeIff, arith, subst, sym, rules}
-use Rattle.std.proofs.Math.Nat.{add-mod-mod, mod-add-mod, mod_self}
+use Rattle.std.proofs.Common.{◌≡◌, ◌↔◌, ℕ, ◌+◌, ◌*◌, ◌<◌, ◌≤◌, ℤ, pos, ◌+ℤ◌, ◌≤ℤ◌, ◌<ℤ◌, Option, None, Some, IsNone, IfSome, SomeIff, arith, subst, sym, rules}
 use Rattle.std.proofs.lemmas.Bool.{cases_lt}
 use Rattle.std.proofs.lemmas.Int.{ints}
-use Rattle.std.proofs.lemmas.Nat.{div-add-mod', mul-le, row_fits, rows}
+use Rattle.std.proofs.lemmas.Nat.{mul-le, row_fits}
 use Rattle.humantime.specs.Prelude.{moment_end}
 use Rattle.humantime_std.specs.Schedule.{IsDue, IsNextRun}
-
--- A gap and what it lacks of whole periods are whole periods.
-pub rest_of_wait : (gap every : ℕ) → 0 < every → (gap + (every - gap % every) % every) % every ≡ 0
-rest_of_wait gap every some =
-    grind (arith, (add-mod-mod gap (every - gap % every) every), (mod-add-mod gap every (every - gap % every)), (mod_self every))
 
 -- The first run is the next one if `now` is not after the last run.
 pub first_run : (last now : ℤ) (every : ℕ) → now ≤ℤ last → IsNextRun last every now (last +ℤ pos every)
@@ -19,15 +13,13 @@ first_run last now every early = record {
   first = λ u due. omega (arith, ints, mul-le 1 every due.periods every due.later (omega arith));
 }
 
--- The time after a wait that is shorter than a period is the next run if the wait completes a period.
-pub run_after_wait : (last now : ℤ) (gap every wait : ℕ) → now ≡ last +ℤ pos gap → 0 < gap → wait < every → (gap + wait) % every ≡ 0
+-- The time after a wait that is shorter than a period is the next run if the gap and the wait are whole periods.
+pub run_after_wait : (last now : ℤ) (gap every wait k : ℕ) → now ≡ last +ℤ pos gap → 0 < gap → gap + wait ≡ k * every → wait < every
     → IsNextRun last every now (now +ℤ pos wait)
-run_after_wait last now gap every wait is some short whole =
-    let k : ℕ = (gap + wait) / every in
-    let length : k * every ≡ gap + wait = omega (arith, div-add-mod' (gap + wait) every) in
+run_after_wait last now gap every wait k is some whole short =
     let least : (j : ℕ) → gap ≤ j * every → k * every ≤ j * every = λ j reached. grind (arith, (cases_lt j k), (row_fits j every k every), (mul-le k every j every)) in
     record {
-      due = record { periods = k; later = grind (arith, rows); at = omega (arith, ints); reached = omega (arith, ints) };
+      due = record { periods = k; later = grind arith; at = omega (arith, ints); reached = omega (arith, ints) };
       first = λ u due. omega (arith, ints, least due.periods (omega (arith, ints)));
     }
 

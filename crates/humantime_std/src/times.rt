@@ -1,6 +1,6 @@
 //! Times of std, a time minus a duration, and the next run of a job.
 
-ghost use Rattle.std.specs.Prelude.{◌≡◌, ◌+◌, ◌%◌, ◌<◌, ◌↔◌, ◌-ℤ◌, ◌≤ℤ◌, ◌<ℤ◌, ℤ, Some, pos, neg_ℤ, IfSome, IsNone, IsSome, SomeIff};
+ghost use Rattle.std.specs.Prelude.{◌≡◌, ◌+◌, ◌*◌, ◌<◌, ◌↔◌, ◌-ℤ◌, ◌≤ℤ◌, ◌<ℤ◌, ℤ, Some, pos, neg_ℤ, IfSome, IsNone, IsSome, SomeIff};
 ghost use Rattle.std.specs.Time.{FitsClock, system_time_nanos};
 ghost use Rattle.humantime.specs.Prelude.{moment_end};
 ghost use Rattle.humantime_std.specs.Schedule.{IsDue, IsNextRun};
@@ -126,18 +126,10 @@ pub fn next_run(last: SystemTime, every: StdDuration, now: SystemTime) -> Option
     if now <= last {
         return last.checked_add(every);
     }
-    let gap = now.duration_since(last).ok()?;
-    now.checked_add(wait_after(gap, every)?)
-}
-
-/// Returns the shortest wait that, together with a gap, is a whole number of periods, or `None` if the period is zero.
-#[tactic(auto, using(crate::proofs::NextRuns::rest_of_wait))]
-fn wait_after(gap: StdDuration, every: StdDuration) -> Option<StdDuration>
-    ensures zero { IsNone result ↔ (every ≡ 0) }
-    ensures short { IfSome result (λ wait. wait < every) }
-    ensures whole { IfSome result (λ wait. (gap + wait) % every ≡ 0) }
-{
-    let every = every.as_nanos();
-    let over = gap.as_nanos().checked_rem(every)?;
-    StdDuration::checked_from_nanos_u128((every - over) % every)
+    let (gap, every) = (now.duration_since(last).ok()?.as_nanos(), every.as_nanos());
+    if every == 0 {
+        return None;
+    }
+    let wait = gap.div_ceil(every) * every - gap;
+    now.checked_add(StdDuration::checked_from_nanos_u128(wait)?)
 }
