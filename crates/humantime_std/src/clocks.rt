@@ -29,7 +29,8 @@ pub fn now(clock: &impl Clock) -> io::Result<SystemTime>
     Ok(SystemTime::from_std(time::SystemTime::now(clock)?).unwrap())
 }
 
-/// Puts the current thread to sleep for at least a duration. No contract can say how long it sleeps.
+/// Lets a clock sleep for a duration. The runtime puts the current thread to sleep for at least that long; another `Clock` may return at
+/// any time. No contract can say how long it sleeps.
 ///
 /// # Examples
 ///

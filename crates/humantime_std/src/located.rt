@@ -1,6 +1,6 @@
 //! The parsers of `humantime`, with errors that contain the range of the bytes that are wrong.
 
-ghost use Rattle.std.specs.Prelude.{◌≡◌, ◌+◌, ◌^◌, ◌<◌, ◌≤◌, ◌↔◌, chars, length, option_map, slice_index, slice_range, suc, take, true, ℕ, IfErr, IfSome, IsSome};
+ghost use Rattle.std.specs.Prelude.{◌≡◌, ◌+◌, ◌-◌, ◌^◌, ◌<◌, ◌≤◌, ◌↔◌, chars, length, min, option_map, slice_index, slice_range, suc, take, true, ℕ, IfErr, IfSome, IsSome};
 ghost use Rattle.std.specs.Char.{is_ascii_digit};
 ghost use Rattle.std.specs.List.{prefix_len};
 ghost use Rattle.std.specs.Result.{result_err, result_map_both};
@@ -64,7 +64,7 @@ impl<E> Located<E> {
         Underline { before, part }
     }
 
-    /// Returns this error for a string with this many more bytes before it.
+    /// Returns this error for a string with this many more bytes before it. An offset that would be above `usize::MAX` is `usize::MAX`.
     ///
     /// # Examples
     ///
@@ -77,8 +77,8 @@ impl<E> Located<E> {
     /// ```
     pub fn after(self, offset: usize) -> Located<E>
         ensures error { result.error ≡ self.error }
-        ensures start { self.start + offset < 2 ^ 64 → result.start ≡ self.start + offset }
-        ensures end { self.end + offset < 2 ^ 64 → result.end ≡ self.end + offset }
+        ensures start { result.start ≡ min (self.start + offset) (2 ^ 64 - 1) }
+        ensures end { result.end ≡ min (self.end + offset) (2 ^ 64 - 1) }
     {
         Located {
             error: self.error,
