@@ -34,7 +34,7 @@ zero_or_not : (text : List ℕ) → (text ≡ bare_zero) ⊎ (text ≢ bare_zero
 zero_or_not text = grind (arith, (bytes_eq-Decides text bare_zero), (cases_Bool (bytes_eq text bare_zero)))
 
 -- Any items of a text determine its outcome.
-outcome_summed : (text : List ℕ) (spans : List SpelledSpan) (stop : Option Fault) → text ≢ bare_zero → Items text spans stop
+pub outcome_summed : (text : List ℕ) (spans : List SpelledSpan) (stop : Option Fault) → text ≢ bare_zero → Items text spans stop
     → (WithinLimits spans × (duration_answer text ≡ unwrap_or (option_map Err stop) (Ok (value spans))))
     ⊎ (¬ (WithinLimits spans) × (duration_answer text ≡ Err NumberOverflow))
 outcome_summed text spans stop some h = grind (arith, (duration_answer-items text some), (items_walked text spans stop h), (spans_summed spans stop h.formed))

@@ -148,7 +148,7 @@ front_push : (front here : List ℕ) (ss : List SpelledSpan) (s : SpelledSpan) �
 front_push front here ss s h p = grind (arith, common_steps, (spells_each-append h.body here ss (s ∷ []) h.each ([], p, refl)))
 
 -- One more span is parsed.
-read_on : (text front rest : List ℕ) (spans : List SpelledSpan) → IsReadTo text front spans rest → BeginsSpan rest
+pub read_on : (text front rest : List ℕ) (spans : List SpelledSpan) → IsReadTo text front spans rest → BeginsSpan rest
     → (here : List ℕ) × IsReadTo text (front ++ here) (spans ++ span_of rest ∷ []) (next_of rest)
 read_on text front rest spans r f =
     let w = written_here rest f in
@@ -157,7 +157,7 @@ read_on text front rest spans r f =
     grind (arith, common_steps, w, (each), formed, (begins-drop_while is_whitespace), (ends-append is_whitespace front w.0))
 
 -- The leading whitespace of a text is skipped, and no span is parsed yet.
-begun : (text : List ℕ) → IsReadTo text (take_while is_whitespace text) [] (drop_while is_whitespace text)
+pub begun : (text : List ℕ) → IsReadTo text (take_while is_whitespace text) [] (drop_while is_whitespace text)
 begun text = grind (arith, common_steps, take_while-drop_while, take_while-only, begins-drop_while)
 
 -- The text after these spans is parsed up to the end of a walk. If the spans break a limit only together with those of the walk, so does the

@@ -1,6 +1,6 @@
 -- The bytes of an error: numbers of two digits, what fits the layout, and that their range lies in the text, between characters.
-use Rattle.std.proofs.Common.{◌≡◌, ℕ, zero, suc, ◌+◌, ◌-◌, ◌*◌, ◌<◌, ◌≤◌, List, ◌∷◌, length, get_or, drop, add-one, arith, rules}
-use Rattle.std.specs.Prelude.{⊤, true, Bool, slice_index}
+use Rattle.std.proofs.Common.{◌≡◌, ℕ, zero, suc, ◌+◌, ◌-◌, ◌*◌, ◌<◌, ◌≤◌, List, ◌∷◌, length, get_or, drop, arith, rules}
+use Rattle.std.specs.Prelude.{true, Bool}
 use Rattle.std.specs.Char.{is_ascii_digit}
 use Rattle.std.specs.Bool.{Decides}
 use Rattle.std.specs.Int.{is_in_range}
@@ -14,16 +14,10 @@ use Rattle.std.proofs.lemmas.List.Sums.{prefix_len-le-length, prefix_len_is, pre
 use Rattle.std.proofs.lemmas.Slice.Zip.{length-zip}
 use Rattle.std.proofs.lemmas.Str.{IsCharBoundary-start, IsCharBoundary-end, IsCharBoundary-after_ascii}
 use Rattle.humantime.specs.Timestamps.{has_digits, has_two, number_between}
-use Rattle.humantime.proofs.TimestampParts.{has_two_from_test, number_of_two, number_of_four}
-use Rattle.humantime_std.specs.Located.{IsRangeIn, char_end, fit_len, fits, fraction_end, layout, timestamp_len, wrong_field, zone_len}
+use Rattle.humantime.proofs.TimestampParts.{number_of_two, number_of_four}
+use Rattle.humantime_std.specs.Located.{IsRangeIn, char_end, fit_len, fits, fraction_end, layout, timestamp_len, zone_len}
 
 -- ---- Numbers
-
--- Two digits are bytes from 48 to 57, and represent a number below 100.
-pub number_of_pair : (b : List ℕ) (at : ℕ) → at + 2 ≤ length b → has_two b at ≡ true
-    → (48 ≤ slice_index b at) × (slice_index b at ≤ 57) × (48 ≤ slice_index b (at + 1)) × (slice_index b (at + 1) ≤ 57)
-    × (number_between b at (at + 2) ≡ (slice_index b at - 48) * 10 + (slice_index b (at + 1) - 48))
-number_of_pair b at long digits = grind (arith, (has_two_from_test b at digits), (number_of_two b at long digits))
 
 -- The year is that of two pairs.
 pub year_of_pairs : (b : List ℕ) → 19 ≤ length b → has_two b 0 ≡ true → has_two b 2 ≡ true → number_between b 0 4 ≡ number_between b 0 2 * 100 + number_between b 2 4
@@ -32,10 +26,6 @@ year_of_pairs b long century decade =
 
 -- The numbers of the fields.
 pub ruleset fields = (common_steps, and_parts, year_of_pairs)
-
-unfoldable pub fields_open : ⊤
-unfolding wrong_field has_digits
-fields_open = tt
 
 -- ---- What fits the layout
 
@@ -59,10 +49,7 @@ pub ruleset ends = (IsCharBoundary-start, IsCharBoundary-end)
 
 -- A place with an ASCII byte before it is a boundary.
 after_ascii : (b : List ℕ) (k : ℕ) → IsUtf8 b → k ≤ length b → (0 < k → get_or b (k - 1) 0 < 128) → IsCharBoundary b k
-after_ascii b zero utf8 inside ascii = IsCharBoundary-start b utf8
-after_ascii b (suc k) utf8 inside ascii =
-    let before : suc k - 1 ≡ k = omega arith in
-    rw add-one at (IsCharBoundary-after_ascii b k utf8 (omega arith) (rw before at (ascii (omega arith))))
+after_ascii b k utf8 inside ascii = grind (arith, (IsCharBoundary-start b utf8), (IsCharBoundary-after_ascii b (k - 1) utf8))
 
 -- What fits the layout is ASCII, and within the text and the layout.
 pub fit_inside : (strict : Bool) (b : List ℕ) → IsUtf8 b → (fit_len strict b ≤ 19) × (fit_len strict b ≤ length b)

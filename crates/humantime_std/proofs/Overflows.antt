@@ -1,6 +1,6 @@
 -- The first span up to whose end a text overflows.
-use Rattle.std.proofs.Common.{◌≡◌, ◌↔◌, ℕ, zero, suc, ◌-◌, ◌<◌, ◌≤◌, true, List, [], ◌∷◌, ◌++◌, length, map, take, drop, get_or, Option, Some, None, Result, Ok, Err, IsUtf8, IsCharBoundary, chars, refl, sym, ap, ◌∙◌, inl, inr, arith, append_assoc, append-nil, length-append}
-use Rattle.std.specs.Prelude.{slice_get, encode_utf8_all, option_map, IsOk}
+use Rattle.std.proofs.Common.{◌≡◌, ◌==◌, ◌↔◌, ◌⊎◌, ℕ, zero, suc, ◌-◌, ◌≤◌, Bool, true, false, List, [], ◌∷◌, ◌++◌, length, take, drop, Option, Some, None, Result, Err, IsUtf8, IsCharBoundary, SomeIff, chars, option_map, unwrap_or, refl, sym, ap, ◌∙◌, inl, inr, arith, append_assoc, append-nil, length-append}
+use Rattle.std.specs.Prelude.{slice_get, encode_utf8_all, IsOk}
 use Rattle.std.specs.Iterator.{SkipsThenYields}
 use Rattle.std.specs.Option.{option_and_then}
 use Rattle.std.specs.Result.{result_ok}
@@ -8,27 +8,25 @@ use Rattle.std.specs.Str.{trim_start}
 use Rattle.std.proofs.Math.Utf8.{scalars}
 use Rattle.std.proofs.lemmas.Iterator.Consumers.{YieldsList-from_shown, nth_from_yields_List}
 use Rattle.std.proofs.lemmas.Grind.{common_steps}
-use Rattle.std.proofs.Math.Seq.{take-suc}
-use Rattle.std.proofs.lemmas.List.{map-append}
 use Rattle.std.proofs.lemmas.Option.{gets}
-use Rattle.std.proofs.lemmas.Str.{IsCharBoundary-at_seam, IsUtf8-take, IsUtf8-drop, chars_from_encodes, encodes-append, encodes-chars, length-le-encodes, scalars-chars}
-use Rattle.humantime.specs.Characters.{take_while, is_whitespace, is_numeric, is_point, drop_while, offset_of}
-use Rattle.humantime.specs.Durations.{SpelledSpan, Spells, SpellsAll, Reads, SumOf, WithinLimits, too_long, value}
-use Rattle.humantime.specs.DurationErrors.{BeginsSpan, Fault, HasFault, IsRangeIn, NumberOverflow, Split, after_number, after_word, span_of, word_of}
-use Rattle.humantime.specs.Items.{AreItems, Items, SpanView, items_of}
+use Rattle.std.proofs.lemmas.Str.{IsCharBoundary-at_seam, IsCharBoundary-end, chars-encodes, encodes-append, encodes-chars, length-le-encodes, scalars-chars}
+use Rattle.humantime.specs.Characters.{take_while, is_numeric, is_point, is_whitespace, offset_of}
+use Rattle.humantime.specs.Durations.{Reads, SpelledSpan, too_long}
+use Rattle.humantime.specs.DurationErrors.{BeginsSpan, Fault, IsRangeIn, NumberOverflow, after_number, after_word, span_of, word_of}
+use Rattle.humantime.specs.Items.{AreItems, Items}
 use Rattle.humantime.specs.SpanResults.{GivesItem, item_of, items_left, span_view}
 use Rattle.humantime.specs.declared.duration.error.DurationError.{DurationError}
 use Rattle.humantime.specs.declared.duration.iter.SpanIter.{SpanIter}
 use Rattle.humantime.specs.declared.duration.span.Span.{Span}
-use Rattle.humantime.specs.DurationResults.{IsDurationAnswer, left_at, view_at}
-use Rattle.humantime.specs.Walks.{items, walk_of}
-use Rattle.humantime.proofs.Outcomes.{accepted_spans, items_decide_fault, items_decide_value, outcome_accepted, outcome_fault}
-use Rattle.humantime.proofs.Characters.{begins-drop_while, drop_while_shorter, take_while-drop_while, take_while-only}
-use Rattle.humantime.proofs.TextWalks.{Steps, by_walk, items_found_at}
-use Rattle.humantime.proofs.Spellings.{is_fine, next_of, next_smaller, point_and_digits, spells_each-append, written_here}
-use Rattle.humantime.proofs.Items.{one_span_view}
-use Rattle.humantime.proofs.Slices.{next_bytes, start_trimmed}
-use Rattle.humantime_std.specs.Located.{Fit, OverflowsAt, rest_at, span_at, start_at}
+use Rattle.humantime.specs.DurationResults.{IsDurationAnswer, duration_answer, left_at, view_at}
+use Rattle.humantime.specs.Walks.{fault_at, stop_at}
+use Rattle.humantime.proofs.Outcomes.{fault_from_outcome, items_whole, outcome_summed}
+use Rattle.humantime.proofs.Characters.{drop_while_shorter, take_while-drop_while}
+use Rattle.humantime.proofs.TextWalks.{IsReadTo, begun, not_zero, read_on, stops_here, walk-stop}
+use Rattle.humantime.proofs.Spellings.{fine_goes, is_fine, next_of, next_smaller, point_and_digits}
+use Rattle.humantime.proofs.Items.{left-go, one_span_view}
+use Rattle.humantime.proofs.Slices.{start_trimmed}
+use Rattle.humantime_std.specs.Located.{BeginsSpans, Fit, OverflowsAt, body, drop_spans, end_at, start_at, take_spans}
 
 -- ---- Offsets
 
@@ -42,193 +40,140 @@ cut_at : (bs front rest : List ℕ) → IsUtf8 bs → chars bs ≡ front ++ rest
 cut_at bs front rest utf8 whole =
     let parts = scalars_parts front rest (ap scalars (sym whole) ∙ scalars-chars bs utf8) in
     let bytes : bs ≡ encode_utf8_all front ++ encode_utf8_all rest = sym (encodes-chars bs utf8) ∙ ap encode_utf8_all whole ∙ encodes-append front rest in
-    let at : offset_of (chars bs) rest ≡ length (encode_utf8_all front) = rw (whole, encodes-append, length-append) (omega arith) in
     let seam = IsCharBoundary-at_seam bs (encode_utf8_all front) (encode_utf8_all rest) bytes (rest, (parts.1, refl)) in
-    rw at (
-      seam,
-      sym (chars_from_encodes front _ (IsUtf8-take bs _ utf8 seam) (grind (arith, common_steps))),
-      sym (chars_from_encodes rest _ (IsUtf8-drop bs _ utf8 seam) (grind (arith, common_steps))),
-    )
+    let at : offset_of (chars bs) rest ≡ length (encode_utf8_all front) = rw (whole, encodes-append, length-append) (omega arith) in
+    rw at (grind (arith, common_steps, seam, bytes, (chars-encodes front parts.0), (chars-encodes rest parts.1)))
 
 -- The offset of what follows whitespace.
-pub trimmed_at : (bs tail t rest : List ℕ) → IsUtf8 bs → IsUtf8 t → t ≡ trim_start tail → chars tail ≡ rest
-    → length bs - length t ≡ offset_of (chars bs) (drop_while is_whitespace rest)
-trimmed_at bs tail t rest utf8 other is same =
-    grind (arith, (start_trimmed tail t other is), (encodes-chars bs utf8), (encodes-chars t other))
+pub trimmed_at : (bs tail t : List ℕ) → IsUtf8 bs → IsUtf8 t → t ≡ trim_start tail → length bs - length t ≡ offset_of (chars bs) (body (chars tail))
+trimmed_at bs tail t utf8 other is = grind (arith, (start_trimmed tail t other is), (encodes-chars bs utf8), (encodes-chars t other))
 
--- ---- The spans of a text
+-- ---- The spans at the front of a text
 
-ok_at : (xs : List SpanView) (stop : Option Fault) (k : ℕ) → option_and_then result_ok (slice_get (items_of xs stop) k) ≡ slice_get xs k
-ok_at [] stop k = grind (arith, common_steps, gets)
-ok_at (x ∷ xs) stop zero = refl
-ok_at (x ∷ xs) stop (suc k) = ok_at xs stop k
-
--- What `nth` of the spans returned, if it is no error, is the span at this index.
-pub nth_is : (text : List ℕ) (it u : SpanIter) (r : Option (Result Span DurationError)) (k : ℕ) → AreItems text (items_left it) → SkipsThenYields GivesItem it k r u
-    → option_map span_view (option_and_then result_ok r) ≡ span_at k text
-unfolding left_at
-nth_is text it u r k are ran =
-    let item = nth_from_yields_List r u k ran (YieldsList-from_shown GivesItem item_of items_left (λ s t g. ap length g.0.0) (λ s x t g. g.0) it) in
-    let same : option_map span_view (option_and_then result_ok r) ≡ option_and_then result_ok (option_map item_of r) = grind arith in
-    same ∙ ap (option_and_then result_ok) (item ∙ ap (λ (l : List (Result SpanView Fault)). slice_get l k) (one_span_view text (items_left it) are)) ∙ ok_at _ _ k
-
--- ---- What is read
-
-with_span : (front here : List ℕ) (spans : List SpelledSpan) (s : SpelledSpan) → SpellsAll front spans → Spells here s [] → SpellsAll (front ++ here) (spans ++ s ∷ [])
-with_span front here spans s h one = grind (arith, common_steps, (spells_each-append h.body here spans (s ∷ []) h.each ([], one, refl)))
-
--- One more span is read.
-read_one : (text front rest : List ℕ) (spans : List SpelledSpan) → Split text front spans rest → BeginsSpan rest
-    → (more : List ℕ) × Split text more (spans ++ span_of rest ∷ []) (next_of rest)
-read_one text front rest spans r b =
-    let w = written_here rest b in
-    let each = with_span front w.0 spans (span_of rest) r.spelled w.2 in
-    (front ++ w.0, grind (arith, common_steps, w, (each), (begins-drop_while is_whitespace)))
-
--- Each rest is what follows the span at the one before it, and `end` is the last one.
-abbrev Follows : List ℕ → List (List ℕ) → List ℕ → Type 0
-Follows rest [] end = rest ≡ end
-Follows rest (r ∷ rs) end = (rest ≡ r) × BeginsSpan r × Follows (next_of r) rs end
-
-walked : (text : List ℕ) → Follows (drop_while is_whitespace text) (walk_of text).starts (walk_of text).rest
-walked text =
-    let steps : Steps text (λ rest w. Follows rest w.starts w.rest) = grind (arith, is_fine) in
-    by_walk text _ steps (drop_while is_whitespace text)
-
--- The text up to a rest is the spans before it.
-split_on : (text front rest : List ℕ) (spans : List SpelledSpan) (rs : List (List ℕ)) (end : List ℕ) (k : ℕ) → Split text front spans rest → Follows rest rs end
-    → (before : List ℕ) × Split text before (spans ++ map span_of (take k rs)) (get_or rs k end)
-split_on text front rest spans [] end k h f = (front, grind (arith, common_steps, append-nil))
-split_on text front rest spans (r ∷ rs) end zero h f = (front, rw (append-nil spans, ← f.0) h)
-split_on text front rest spans (r ∷ rs) end (suc k) h f =
-    let one = read_one text front r spans (rw (f.0) at h) f.1 in
-    rw append_assoc at (split_on text one.0 (next_of r) (spans ++ span_of r ∷ []) rs end k one.1 f.2)
-
-split_at : (text : List ℕ) (k : ℕ) → (front : List ℕ) × Split text front (map span_of (take k (walk_of text).starts)) (rest_at k text)
-split_at text k =
-    let start : Split text (take_while is_whitespace text) [] (drop_while is_whitespace text) = grind (arith, common_steps, take_while-drop_while, take_while-only, begins-drop_while) in
-    split_on text (take_while is_whitespace text) (drop_while is_whitespace text) [] (walk_of text).starts (walk_of text).rest k start (walked text)
-
-start_on : (rest : List ℕ) (rs : List (List ℕ)) (end : List ℕ) → Follows rest rs end → get_or rs 0 end ≡ rest
-start_on rest [] end f = sym f
-start_on rest (r ∷ rs) end f = sym f.0
-
--- A span begins at each rest but the last one, and the next rest follows it.
-next_on : (rest : List ℕ) (rs : List (List ℕ)) (end : List ℕ) (k : ℕ) → Follows rest rs end → k < length rs
-    → BeginsSpan (get_or rs k end) × (get_or rs (suc k) end ≡ next_of (get_or rs k end))
-next_on rest (r ∷ []) end zero f some = (f.1, sym f.2)
-next_on rest (r ∷ q ∷ rs) end zero f some = (f.1, sym f.2.0)
-next_on rest (r ∷ rs) end (suc k) f some = next_on (next_of r) rs end k f.2 (omega arith)
-next_on rest [] end k f some = absurd (omega arith)
-
-pub next_at : (text : List ℕ) (k : ℕ) → k < length (walk_of text).starts → BeginsSpan (rest_at k text) × (rest_at (suc k) text ≡ next_of (rest_at k text))
-next_at text k some = next_on _ _ _ k (walked text) some
-
-pub start_of_first : (text : List ℕ) → rest_at 0 text ≡ drop_while is_whitespace text
-start_of_first text = start_on _ _ _ (walked text)
+-- One more span.
+one_more : (rest : List ℕ) (k : ℕ) → (drop_spans (suc k) rest ≡ next_of (drop_spans k rest))
+    × (take_spans (suc k) rest ≡ take_spans k rest ++ span_of (drop_spans k rest) ∷ [])
+    × (BeginsSpans (suc k) rest ↔ (BeginsSpans k rest × BeginsSpan (drop_spans k rest)))
+one_more rest zero = grind arith
+one_more rest (suc k) = grind (arith, (one_more (next_of rest) k))
 
 -- Each span has a character.
-few_on : (rest : List ℕ) (rs : List (List ℕ)) (end : List ℕ) → Follows rest rs end → length rs ≤ length rest
-few_on rest [] end f = omega arith
-few_on rest (r ∷ rs) end f = omega (arith, few_on (next_of r) rs end f.2, next_smaller r f.1.number.digit, ap length f.0)
+few : (rest : List ℕ) (k : ℕ) → BeginsSpans k rest → k ≤ length rest
+few rest zero begins = omega arith
+few rest (suc k) begins = omega (arith, few (next_of rest) k begins.1, next_smaller rest begins.0.number.digit)
 
 -- No text has as many spans as bytes and one more.
 pub too_many : (bs : List ℕ) → IsUtf8 bs → ¬ (Fit (chars bs) (suc (length bs)))
 too_many bs utf8 fit =
-    let few = few_on _ _ _ (walked (chars bs)) in
-    absurd (omega (arith, few, fit.begins, drop_while_shorter is_whitespace (chars bs), length-le-encodes (chars bs), ap length (encodes-chars bs utf8)))
+    absurd (omega (arith, few (body (chars bs)) (suc (length bs)) fit.begins, drop_while_shorter is_whitespace (chars bs), length-le-encodes (chars bs), ap length (encodes-chars bs utf8)))
+
+-- The text before the rest is the spans before it.
+read_to : (text front rest : List ℕ) (spans : List SpelledSpan) (k : ℕ) → IsReadTo text front spans rest → BeginsSpans k rest
+    → (before : List ℕ) × IsReadTo text before (spans ++ take_spans k rest) (drop_spans k rest)
+read_to text front rest spans zero r begins = (front, rw (append-nil spans) r)
+read_to text front rest spans (suc k) r begins =
+    let one = read_on text front rest spans r begins.0 in
+    rw append_assoc at (read_to text (front ++ one.0) (next_of rest) (spans ++ span_of rest ∷ []) k one.1 begins.1)
+
+reads : (text : List ℕ) (k : ℕ) → BeginsSpans k (body text) → (before : List ℕ) × IsReadTo text before (take_spans k (body text)) (drop_spans k (body text))
+reads text k begins = read_to text _ (body text) [] k (begun text) begins
+
+-- ---- The spans that the iterator gives
+
+none_or_some : (found : Option Fault) → (found ≡ None) ⊎ ((e : Fault) × (found ≡ Some e))
+none_or_some None = inl refl
+none_or_some (Some e) = inr (e, refl)
+
+-- An error that stops a rest is no span.
+no_span : (first : Bool) (text rest : List ℕ) (k : ℕ) (e : Fault) → fault_at text rest ≡ Some e → option_and_then result_ok (slice_get (left_at first text rest) k) ≡ None
+unfolding left_at
+no_span first text rest k e stops = grind (arith, common_steps, gets, (walk-stop text rest e stops))
+
+-- The item at an index, if it is no error, is the span there.
+item_at : (first : Bool) (text rest : List ℕ) (k : ℕ)
+    → SomeIff (option_and_then result_ok (slice_get (left_at first text rest) k)) (BeginsSpans (suc k) rest) (view_at text (drop_spans k rest))
+item_at first text rest zero = grind (arith, (none_or_some (fault_at text rest)), (is_fine text rest), (fine_goes text rest), (left-go first text rest), (no_span first text rest 0))
+item_at first text rest (suc k) = grind (arith, (none_or_some (fault_at text rest)), (is_fine text rest), (fine_goes text rest), (left-go first text rest), (no_span first text rest (suc k)), (item_at false text (next_of rest) k))
+
+-- What `nth` of the spans returned, if it is no error, is the span at this index.
+pub nth_is : (text : List ℕ) (it u : SpanIter) (r : Option (Result Span DurationError)) (k : ℕ) → AreItems text (items_left it) → SkipsThenYields GivesItem it k r u
+    → SomeIff (option_map span_view (option_and_then result_ok r)) (BeginsSpans (suc k) (body text)) (view_at text (drop_spans k (body text)))
+nth_is text it u r k are ran =
+    let item = nth_from_yields_List r u k ran (YieldsList-from_shown GivesItem item_of items_left (λ s t g. ap length g.0.0) (λ s x t g. g.0) it) in
+    let same : option_map span_view (option_and_then result_ok r) ≡ option_and_then result_ok (option_map item_of r) = grind arith in
+    rw (same, item, one_span_view text (items_left it) are) (item_at true text (body text) k)
 
 -- ---- The ends of spans
-
--- A span that is found is that at the start of the rest before it.
-pub span_is : (text : List ℕ) (k : ℕ) (o : Option Span) (s : Span) → option_map span_view o ≡ span_at k text → o ≡ Some s
-    → (k < length (walk_of text).starts) × (span_view s ≡ view_at text (rest_at k text))
-span_is text k o s found is = grind (arith, common_steps, gets)
-
-pub no_span : (text : List ℕ) (k : ℕ) (o : Option Span) → option_map span_view o ≡ span_at k text → o ≡ None → length (walk_of text).starts ≤ k
-no_span text k o found is = grind (arith, common_steps, gets)
 
 word_ends : (rest : List ℕ) → (before : List ℕ) × (rest ≡ before ++ after_word rest)
 unfolding is_point
 word_ends rest = (take_while is_numeric rest ++ (point_and_digits (after_number rest) ++ word_of rest), grind (arith, common_steps, take_while-drop_while))
 
-pub start_boundary : (bs : List ℕ) (k : ℕ) → IsUtf8 bs → IsCharBoundary bs (start_at k (chars bs))
-start_boundary bs k utf8 = let r = split_at (chars bs) k in (cut_at bs r.0 (rest_at k (chars bs)) utf8 r.1.whole).0
+-- What follows the word of the span at the start of a rest.
+cut_after_word : (bs front rest : List ℕ) → IsUtf8 bs → chars bs ≡ front ++ rest → let end = offset_of (chars bs) (after_word rest) in
+    (offset_of (chars bs) rest ≤ end) × IsCharBoundary bs end × (chars (drop end bs) ≡ after_word rest)
+cut_after_word bs front rest utf8 whole =
+    let word = word_ends rest in
+    let cut = cut_at bs (front ++ word.0) (after_word rest) utf8 (grind (arith, append_assoc, whole, word.1)) in
+    let size = ap (λ (r : List ℕ). length (encode_utf8_all r)) word.1 in
+    (grind (arith, size, encodes-append, length-append), cut.0, cut.2)
 
--- A span that is found lies between characters, and what follows it is what follows its word.
-pub span_ends : (bs : List ℕ) (k : ℕ) (o : Option Span) (s : Span) → IsUtf8 bs → option_map span_view o ≡ span_at k (chars bs) → o ≡ Some s
-    → IsRangeIn bs s.start s.end × (chars (drop s.end bs) ≡ after_word (rest_at k (chars bs)))
-span_ends bs k o s utf8 found is =
-    let text = chars bs in
-    let at = span_is text k o s found is in
-    let begins = (next_at text k at.0).0 in
-    let r = split_at text k in
-    let w = word_ends (rest_at k text) in
-    let cut = cut_at bs (r.0 ++ w.0) (after_word (rest_at k text)) utf8 (grind (arith, append_assoc, r.1.whole, w.1)) in
-    let start : s.start ≡ start_at k text = ap (λ (x : SpanView). x.start) at.1 in
-    let end : s.end ≡ offset_of text (after_word (rest_at k text)) = ap (λ (x : SpanView). x.end) at.1 in
-    rw (start, end) ((omega (arith, next_bytes (rest_at k text) begins.number.digit), start_boundary bs k utf8, cut.0), cut.2)
+pub after_span : (bs : List ℕ) (k : ℕ) → IsUtf8 bs → BeginsSpans (suc k) (body (chars bs))
+    → IsCharBoundary bs (end_at k (chars bs)) × (chars (drop (end_at k (chars bs)) bs) ≡ after_word (drop_spans k (body (chars bs))))
+after_span bs k utf8 begins =
+    let before = reads (chars bs) k ((one_more _ k).2.0 begins).0 in
+    let cut = cut_after_word bs before.0 (drop_spans k (body (chars bs))) utf8 before.1.split.whole in
+    (cut.1, cut.2)
 
--- What follows a span and the whitespace after it.
-pub next_start : (bs tail t : List ℕ) (k end : ℕ) (o : Option Span) (s : Span) → IsUtf8 bs → IsUtf8 t → option_map span_view o ≡ span_at k (chars bs) → o ≡ Some s
-    → end ≡ s.end → tail ≡ drop end bs → t ≡ trim_start tail → length bs - length t ≡ start_at (suc k) (chars bs)
-next_start bs tail t k end o s utf8 other found is at cut trim =
-    let next = (next_at (chars bs) k (span_is (chars bs) k o s found is).0).1 in
-    rw next (trimmed_at bs tail t (after_word (rest_at k (chars bs))) utf8 other trim (rw (cut, at) ((span_ends bs k o s utf8 found is).1)))
-
--- A front of whole spans is accepted if and only if they are within the limits.
-pub fit_decides : (bs front : List ℕ) (k end : ℕ) (r : Result ℕ DurationError) → IsUtf8 bs → k < length (walk_of (chars bs)).starts
-    → end ≡ start_at (suc k) (chars bs) → front ≡ take end bs → IsDurationAnswer front r → IsOk r ↔ Fit (chars bs) (suc k)
-fit_decides bs front k end r utf8 some at is answer =
-    let here = split_at (chars bs) (suc k) in
-    let cut = cut_at bs here.0 (rest_at (suc k) (chars bs)) utf8 here.1.whole in
-    let reads : Reads (chars front) (map span_of (take (suc k) (walk_of (chars bs)).starts)) = (rw (is, at, cut.1) (here.1.spelled), λ none. grind (arith, common_steps, (ap length none))) in
-    elim r as (λ x. IsDurationAnswer front x → IsOk x ↔ Fit (chars bs) (suc k)) [
-      | Ok v ↦ λ a. (λ ok. record { begins = omega arith; within = (accepted_spans _ _ v reads ((a.value v).0 refl)).0 }, λ fit. refl)
-      | Err e ↦ λ a. (λ no. absurd (cc), λ fit. let ok = (a.value _).1 (SumOf _ reads fit.within refl) in absurd (cc))
-    ] answer
+-- The text up to the whitespace after a span is accepted if and only if its spans are within the limits.
+pub front_decides : (bs tail t : List ℕ) (k end : ℕ) → IsUtf8 bs → IsUtf8 t → BeginsSpans (suc k) (body (chars bs)) × (end ≡ end_at k (chars bs)) → tail ≡ drop end bs → t ≡ trim_start tail
+    → let next = length bs - length t in
+    (next ≡ start_at (suc k) (chars bs)) × IsCharBoundary bs next × ((r : Result ℕ DurationError) → IsDurationAnswer (take next bs) r → IsOk r ↔ Fit (chars bs) (suc k))
+front_decides bs tail t k end utf8 other found cut trim =
+    let next : length bs - length t ≡ start_at (suc k) (chars bs) =
+    rw ((one_more (body (chars bs)) k).0) (rw (cut, found.1, (after_span bs k utf8 found.0).1) at (trimmed_at bs tail t utf8 other trim)) in
+    let before = reads (chars bs) (suc k) found.0 in
+    let spans = take_spans (suc k) (body (chars bs)) in
+    let front = cut_at bs before.0 _ utf8 before.1.split.whole in
+    let read : Reads before.0 spans = (before.1.split.spelled, λ none. grind arith) in
+    let summed = outcome_summed before.0 spans None (not_zero before.0 spans read) (items_whole before.0 spans read before.1.formed) in
+    rw next (refl, front.0, λ r answer. grind (arith, (rw (front.1) at answer.answer), summed, found.0))
 
 -- ---- The fault
 
--- Spans within the limits that stop in a text that overflows stop with an overflow.
-stop_there : (text : List ℕ) (spans : List SpelledSpan) (stop : Option Fault) → HasFault text NumberOverflow → Items text spans stop → WithinLimits spans → stop ≡ Some NumberOverflow
-stop_there text spans None h i within =
-    let one = outcome_accepted text (value spans) ((items_decide_value text spans None i h.not_zero (value spans)).1 (refl, within, refl)) in
-    let other = outcome_fault text NumberOverflow h in
-    absurd (cc)
-stop_there text spans (Some e) h i within =
-    grind (arith, (items_decide_fault text spans e i h.not_zero within), (outcome_fault text e), (outcome_fault text NumberOverflow h))
-
--- If a text overflows, and only its first `k` spans are within the limits, it overflows at the next one.
-pub overflows_here : (text : List ℕ) (k : ℕ) (o : Option Span) (s : Span) → HasFault text NumberOverflow → Fit text k → ¬ (Fit text (suc k))
-    → option_map span_view o ≡ span_at k text → o ≡ Some s → OverflowsAt text s.start s.end
-overflows_here text k o s h fit beyond found is =
-    let at = span_is text k o s found is in
-    let begins = (next_at text k at.0).0 in
-    let before = split_at text k in
-    let spans = map span_of (take k (walk_of text).starts) in
-    let more : map span_of (take (suc k) (walk_of text).starts) ≡ spans ++ span_of (rest_at k text) ∷ [] = rw (take-suc (walk_of text).starts k (walk_of text).rest at.0, map-append) refl in
-    let over = λ (within : WithinLimits (spans ++ span_of (rest_at k text) ∷ [])). beyond (record { begins = omega arith; within = rw more within }) in
+-- A text that overflows, and whose first `k` spans and no more are within the limits, overflows at the next span, or to its end if there is none.
+pub overflows_after : (bs : List ℕ) (k : ℕ) (end : Option ℕ) → IsUtf8 bs → duration_answer (chars bs) ≡ Err NumberOverflow → Fit (chars bs) k → ¬ (Fit (chars bs) (suc k))
+    → SomeIff end (BeginsSpans (suc k) (body (chars bs))) (end_at k (chars bs)) → OverflowsAt (chars bs) (start_at k (chars bs)) (unwrap_or end (length bs))
+overflows_after bs k (Some end) utf8 over fit beyond is =
+    let h = fault_from_outcome _ _ over in
+    let before = reads (chars bs) k fit.begins in
+    let more = one_more (body (chars bs)) k in
+    let span = (more.2.0 is.0).1 in
     record {
-      fault = record { not_zero = h.not_zero; front = before.0; rest = rest_at k text; spans = spans; split = before.1; within = fit.within; row = inr (record { span = begins; beyond = over; fault = refl }) };
-      at_start = ap (λ (x : SpanView). x.start) at.1;
-      at_end = rw (begins.number.short) (ap (λ (x : SpanView). x.end) at.1);
+      fault = record { not_zero = h.not_zero; front = before.0; rest = _; spans = _; split = before.1.split; within = fit.within; row = inr (record { span = span; beyond = λ within. beyond (record { begins = is.0; within = rw (more.1) within }); fault = refl }) };
+      at_start = refl;
+      at_end = rw (span.number.short) (is.1);
     }
-
--- If all its spans are within the limits, it overflows at what follows them.
-pub overflows_to_end : (bs : List ℕ) (k : ℕ) (o : Option Span) → IsUtf8 bs → HasFault (chars bs) NumberOverflow → Fit (chars bs) k
-    → option_map span_view o ≡ span_at k (chars bs) → o ≡ None → OverflowsAt (chars bs) (start_at k (chars bs)) (length bs)
-unfolding items
-overflows_to_end bs k o utf8 h fit found is =
-    let text = chars bs in
-    let items = items_found_at text in
-    let all : k ≡ length (walk_of text).starts = omega (arith, no_span text k o found is, fit.begins) in
-    let spans : map span_of (take k (walk_of text).starts) ≡ map span_of (walk_of text).starts = grind (arith, common_steps) in
-    let rest : rest_at k text ≡ items.0.rest = grind (arith, common_steps, (items.1)) in
-    let row = rw (stop_there text _ _ h items.0 (rw spans at fit.within)) at items.0.ends in
-    let long : too_long (span_of items.0.rest) ≡ true = grind (arith, (row)) in
-    rw rest (record {
-      fault = record { not_zero = h.not_zero; front = items.0.front; rest = items.0.rest; spans = map span_of (walk_of text).starts; split = items.0.split; within = rw spans at fit.within; row = inl row };
+overflows_after bs k None utf8 over fit beyond none =
+    let h = fault_from_outcome _ _ over in
+    let before = reads (chars bs) k fit.begins in
+    let rest = drop_spans k (body (chars bs)) in
+    let spans = take_spans k (body (chars bs)) in
+    let stop : (e : Fault) × (fault_at (chars bs) rest ≡ Some e) = grind (arith, (none_or_some (fault_at (chars bs) rest)), (is_fine (chars bs) rest), (one_more (body (chars bs)) k), none, (fit.begins)) in
+    let ends = stops_here (chars bs) before.0 _ spans stop.0 before.1 stop.1 in
+    let items : Items (chars bs) spans (stop_at (length spans == 0) (chars bs) rest) = record { front = before.0; rest = rest; split = before.1.split; formed = before.1.formed; ends = ends } in
+    let is : stop_at (length spans == 0) (chars bs) rest ≡ Some NumberOverflow = grind (arith, (outcome_summed _ _ _ h.not_zero items), over, (fit.within)) in
+    let row = rw is at ends in
+    let long : too_long (span_of rest) ≡ true = grind (arith, row) in
+    record {
+      fault = record { not_zero = h.not_zero; front = before.0; rest = rest; spans = spans; split = before.1.split; within = fit.within; row = inl row };
       at_start = refl;
       at_end = rw long (sym (ap length (encodes-chars bs utf8)));
-    })
+    }
+
+-- A text overflows at characters.
+pub overflow_inside : (bs : List ℕ) (start end : ℕ) → IsUtf8 bs → OverflowsAt (chars bs) start end → IsRangeIn bs start end
+overflow_inside bs start end utf8 at =
+    let h = at.fault in
+    let cut = cut_at bs h.front h.rest utf8 h.split.whole in
+    grind (arith, cut, at.at_start, at.at_end, (cut_after_word bs h.front h.rest utf8 h.split.whole), (encodes-chars bs utf8), (IsCharBoundary-end bs))

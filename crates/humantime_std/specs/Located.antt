@@ -1,5 +1,5 @@
 -- The bytes that are wrong in a text that is not a timestamp or a duration. A text is its list of bytes.
-use Rattle.std.specs.Prelude.{◌≡◌, ◌≤◌, chars, ◌+◌, ◌==◌, ◌||◌, ◌&&◌, nat_eq, nat_le, not, min, if◌then◌else◌, ℕ, Bool, true, false, List, length, map, take, drop, slice_index, slice_get, slice_index_or, codes, Option, option_map}
+use Rattle.std.specs.Prelude.{◌≡◌, chars, ◌+◌, ◌==◌, ◌||◌, ◌&&◌, nat_eq, nat_le, not, min, if◌then◌else◌, ⊤, ℕ, zero, suc, Bool, true, false, List, [], ◌∷◌, length, drop, slice_index, codes, Option, option_map}
 use Rattle.std.specs.Char.{is_ascii_digit}
 use Rattle.std.specs.Int.{is_in_range}
 use Rattle.std.specs.List.{prefix_len, starts_with, zip}
@@ -8,15 +8,12 @@ use Rattle.std.specs.Str.{byte}
 use Rattle.humantime.specs.declared.date.error.TimestampError.{TimestampError}
 use Rattle.humantime.specs.declared.date.error.TimestampError.TheVariants.{OutOfRange}
 use Rattle.humantime.specs.Calendar.{is_valid}
-use Rattle.humantime.specs.Characters.{byte_length, offset_of}
-use Rattle.humantime.specs.DurationErrors.{Fault, InvalidCharacter, NumberExpected, UnknownUnit, NumberOverflow, Empty, HasFault, after_word, span_of}
+use Rattle.humantime.specs.Characters.{byte_length, drop_while, is_whitespace, offset_of}
+use Rattle.humantime.specs.DurationErrors.{Fault, InvalidCharacter, NumberExpected, UnknownUnit, NumberOverflow, Empty, BeginsSpan, HasFault, after_word, span_of}
 pub use Rattle.humantime.specs.DurationErrors.{IsRangeIn}
-use Rattle.humantime.specs.DurationResults.{view_at}
-use Rattle.humantime.specs.Durations.{WithinLimits, too_long}
-use Rattle.humantime.specs.Items.{SpanView}
+use Rattle.humantime.specs.Durations.{SpelledSpan, WithinLimits, too_long}
 use Rattle.humantime.specs.TimestampResults.{strict_answer, weak_answer}
 use Rattle.humantime.specs.Timestamps.{date_time_of}
-use Rattle.humantime.specs.Walks.{walk_of}
 use Rattle.humantime_std.specs.declared.located.Located.{Located}
 
 -- Returns the offset after the character that begins at an offset, or the end of the text if none does.
@@ -105,19 +102,34 @@ IsFaultRange text Empty start end = (start ≡ 0) × (end ≡ length text)
 
 -- ---- The spans at the front of a text, which is its list of characters: what the contracts of private functions cite
 
--- Returns the view of the span at an index, if there is one.
-abbrev pub span_at : ℕ → List ℕ → Option SpanView
-span_at k text = slice_get (map (view_at text) (walk_of text).starts) k
+-- Returns the text without its leading whitespace.
+abbrev pub body : List ℕ → List ℕ
+body text = drop_while is_whitespace text
+
+-- Returns the first `k` spans of a text that begins with one.
+abbrev pub take_spans : ℕ → List ℕ → List SpelledSpan
+take_spans zero rest = []
+take_spans (suc k) rest = span_of rest ∷ take_spans k (body (after_word rest))
 
 -- Returns what follows the first `k` spans and the whitespace after each.
-abbrev pub rest_at : ℕ → List ℕ → List ℕ
-rest_at k text = slice_index_or (walk_of text).starts k (walk_of text).rest
+abbrev pub drop_spans : ℕ → List ℕ → List ℕ
+drop_spans zero rest = rest
+drop_spans (suc k) rest = drop_spans k (body (after_word rest))
 
--- Returns the offset of what follows the first `k` spans.
+-- The text begins with `k` whole spans.
+abbrev pub BeginsSpans : ℕ → List ℕ → Type 0
+BeginsSpans zero rest = ⊤
+BeginsSpans (suc k) rest = BeginsSpan rest × BeginsSpans k (body (after_word rest))
+
+-- Returns the offset of what follows the first `k` spans, after any whitespace, and the whitespace after each.
 abbrev pub start_at : ℕ → List ℕ → ℕ
-start_at k text = offset_of text (rest_at k text)
+start_at k text = offset_of text (drop_spans k (body text))
 
--- The text begins with `k` whole spans, which are within the limits.
+-- Returns the offset after the word of the span at an index.
+abbrev pub end_at : ℕ → List ℕ → ℕ
+end_at k text = offset_of text (after_word (drop_spans k (body text)))
+
+-- The text begins with `k` whole spans, after any whitespace, and they are within the limits.
 pub record Fit (text : List ℕ) (k : ℕ) : Type 0 where
-  pub begins : k ≤ length (walk_of text).starts
-  pub within : WithinLimits (map span_of (take k (walk_of text).starts))
+  pub begins : BeginsSpans k (body text)
+  pub within : WithinLimits (take_spans k (body text))

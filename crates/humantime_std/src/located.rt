@@ -1,17 +1,17 @@
 //! The parsers of `humantime`, with errors that contain the range of the bytes that are wrong.
 
-ghost use Rattle.std.specs.Prelude.{◌≡◌, ◌+◌, ◌-◌, ◌^◌, ◌<◌, ◌≤◌, ◌↔◌, chars, length, min, option_map, slice_index, slice_range, suc, take, true, ℕ, IfErr, IfSome, IsSome};
+ghost use Rattle.std.specs.Prelude.{◌≡◌, ◌+◌, ◌-◌, ◌^◌, ◌<◌, ◌≤◌, chars, length, min, slice_range, suc, take, true, Err, IfErr, SomeIff};
 ghost use Rattle.std.specs.Char.{is_ascii_digit};
 ghost use Rattle.std.specs.List.{prefix_len};
 ghost use Rattle.std.specs.Result.{result_err, result_map_both};
 ghost use Rattle.std.specs.Str.{IsCharBoundary};
-ghost use Rattle.humantime.specs.Prelude.{HasFault, NumberOverflow, PointsInto, duration_answer, fault_of, span_view, strict_answer, weak_answer};
+ghost use Rattle.humantime.specs.Prelude.{NumberOverflow, duration_answer, fault_of, strict_answer, weak_answer};
 ghost use Rattle.humantime.specs.Timestamps.{has_digits, has_two, number_between};
 ghost use Rattle.humantime_std.specs.Located as spec;
-ghost use Rattle.humantime_std.specs.Located.{Fit, IsFaultRange, IsRangeIn, OverflowsAt, span_at, start_at, strict_error, weak_error};
+ghost use Rattle.humantime_std.specs.Located.{BeginsSpans, Fit, IsFaultRange, IsRangeIn, OverflowsAt, body, end_at, start_at, strict_error, weak_error};
 
 use humantime::{
-    Date, DurationError, Span, StdDuration, SystemTime, TimestampError, Turns, day_number, spans,
+    Date, DurationError, StdDuration, SystemTime, TimestampError, Turns, day_number, spans,
 };
 use std::error::Error;
 use std::fmt::{self, Display};
@@ -164,18 +164,25 @@ static LAYOUT: [u8; 19] = *b"0000-00-00 00:00:00";
 /// let error = Located { error: DurationError::NumberExpected(3), start: 3, end: 5 };
 /// assert_eq!(rt; parse_duration("1h é"), Err(error));
 /// ```
+#[tactic(auto, using(crate::proofs::Inside::ends))]
 pub fn parse_duration(text: &str) -> Result<StdDuration, Located<DurationError<'_>>>
     ensures answer { result_map_both (λ d. d) (λ e. fault_of e.error) result ≡ duration_answer (chars text.now) }
     ensures place { IfErr result (λ e. IsFaultRange text.now (fault_of e.error) e.start e.end) }
     ensures range { IfErr result (λ e. IsRangeIn text.now e.start e.end) }
 {
-    match humantime::parse_duration(text) {
-        Ok(duration) => Ok(duration),
-        Err(error) => {
-            let (start, end) = duration_range(text, &error);
-            Err(Located { error, start, end })
+    let error = match humantime::parse_duration(text) {
+        Ok(duration) => return Ok(duration),
+        Err(error) => error,
+    };
+    let (start, end) = match error {
+        DurationError::InvalidCharacter(at) | DurationError::NumberExpected(at) => {
+            (at, char_end(text, at))
         }
-    }
+        DurationError::UnknownUnit { start, end, .. } => (start, end),
+        DurationError::NumberOverflow => overflow_range(text),
+        DurationError::Empty => (0, text.len()),
+    };
+    Err(Located { error, start, end })
 }
 
 /// Parses a timestamp in the weak format as [`humantime::parse_rfc3339_weak`] does.
@@ -209,10 +216,7 @@ pub fn parse_rfc3339_weak(text: &str) -> Result<SystemTime, Located<TimestampErr
     ensures place { result_err result ≡ weak_error text.now }
     ensures range { IfErr result (λ e. IsRangeIn text.now e.start e.end) }
 {
-    match humantime::parse_rfc3339_weak(text) {
-        Ok(time) => Ok(time),
-        Err(error) => Err(locate(text, error, false)),
-    }
+    humantime::parse_rfc3339_weak(text).map_err(|error| locate(text, error, false))
 }
 
 /// Parses a timestamp in the strict format as [`humantime::parse_rfc3339`] does.
@@ -238,34 +242,14 @@ pub fn parse_rfc3339(text: &str) -> Result<SystemTime, Located<TimestampError>>
     ensures place { result_err result ≡ strict_error text.now }
     ensures range { IfErr result (λ e. IsRangeIn text.now e.start e.end) }
 {
-    match humantime::parse_rfc3339(text) {
-        Ok(time) => Ok(time),
-        Err(error) => Err(locate(text, error, true)),
-    }
-}
-
-/// Returns the range of a duration's error.
-#[tactic(auto, using(crate::proofs::Inside::ends))]
-fn duration_range(text: &str, error: &DurationError<'_>) -> (usize, usize)
-    requires points { PointsInto text.now error.now }
-    requires fault { HasFault (chars text.now) (fault_of error.now) }
-    ensures place { IsFaultRange text.now (fault_of error.now) result.0 result.1 }
-    ensures range { IsRangeIn text.now result.0 result.1 }
-{
-    match error {
-        DurationError::InvalidCharacter(at) => (*at, char_end(text, *at)),
-        DurationError::NumberExpected(at) => (*at, char_end(text, *at)),
-        DurationError::UnknownUnit { start, end, .. } => (*start, *end),
-        DurationError::NumberOverflow => overflow_range(text),
-        DurationError::Empty => (0, text.len()),
-    }
+    humantime::parse_rfc3339(text).map_err(|error| locate(text, error, true))
 }
 
 /// Returns the range of the first span up to whose end a string overflows.
 ///
 /// It halves the number of spans that fit: each test parses a front of the string, so one for each span would take quadratic time.
 fn overflow_range(text: &str) -> (usize, usize)
-    requires { HasFault (chars text.now) NumberOverflow }
+    requires { duration_answer (chars text.now) ≡ Err NumberOverflow }
     ensures place { OverflowsAt (chars text.now) result.0 result.1 }
     ensures range { IsRangeIn text.now result.0 result.1 }
 {
@@ -281,54 +265,43 @@ fn overflow_range(text: &str) -> (usize, usize)
             None => high = middle,
         }
     }
-    match nth_span(text, low) {
-        Some(span) => (span.start(), span.end()),
-        None => (start, text.len()),
-    }
+    (start, span_end(text, low).unwrap_or(text.len()))
 }
 
 /// Returns the offset after the span at an index and the whitespace behind it, if the spans up to it are within the limits.
+#[tactic(auto, using(crate::proofs::Overflows::after_span))]
 fn fitting_end(text: &str, index: usize) -> Option<usize>
-    ensures fit { IsSome result ↔ Fit (chars text.now) (suc index) }
-    ensures end { IfSome result (λ end. end ≡ start_at (suc index) (chars text.now)) }
+    ensures { SomeIff result (Fit (chars text.now) (suc index)) (start_at (suc index) (chars text.now)) }
 {
-    let (_, rest) = text.split_at(nth_span(text, index)?.end());
+    let (_, rest) = text.split_at(span_end(text, index)?);
     let end = text.len() - rest.trim_start().len();
     let (front, _) = text.split_at(end);
     humantime::parse_duration(front).ok()?;
     Some(end)
 }
 
-/// Returns the span at an index, if there is one.
-fn nth_span(text: &str, index: usize) -> Option<Span<'_>>
-    ensures { option_map span_view result ≡ span_at index (chars text.now) }
+/// Returns the offset after the span at an index, if there is one.
+fn span_end(text: &str, index: usize) -> Option<usize>
+    ensures { SomeIff result (BeginsSpans (suc index) (body (chars text.now))) (end_at index (chars text.now)) }
 {
-    spans(text).nth(index)?.ok()
+    spans(text).nth(index)?.ok().map(|span| span.end())
 }
 
 /// Returns an error of a timestamp with its range.
+#[tactic(auto, using(crate::proofs::Inside::fit_inside, crate::proofs::Inside::timestamp_inside))]
 fn locate(text: &str, error: TimestampError, strict: bool) -> Located<TimestampError>
     ensures error { result ≡ spec.located strict text.now error }
     ensures range { IsRangeIn text.now result.start result.end }
 {
-    let (start, end) = error_range(text, error, strict);
-    Located { error, start, end }
-}
-
-/// Returns the range of a timestamp's error.
-#[tactic(auto, using(crate::proofs::Inside::fit_inside, crate::proofs::Inside::timestamp_inside))]
-fn error_range(text: &str, error: TimestampError, strict: bool) -> (usize, usize)
-    ensures place { result ≡ spec.error_range strict text.now error }
-    ensures range { IsRangeIn text.now result.0 result.1 }
-{
     let fitting = fit_len(text, strict);
-    if fitting < LAYOUT.len() {
-        return (fitting, char_end(text, fitting));
-    }
-    match error {
-        TimestampError::OutOfRange => wrong_field(text.as_bytes()),
-        _ => (timestamp_len(text.as_bytes()), text.len()),
-    }
+    let (start, end) = if fitting < LAYOUT.len() {
+        (fitting, char_end(text, fitting))
+    } else if error == TimestampError::OutOfRange {
+        wrong_field(text.as_bytes())
+    } else {
+        (timestamp_len(text.as_bytes()), text.len())
+    };
+    Located { error, start, end }
 }
 
 /// Returns the offset after the character at an offset, or the end of the string if there is none.
@@ -366,7 +339,7 @@ fn fits(strict: bool, place: u8, byte: u8) -> bool
 }
 
 /// Returns the bytes of the first number that is out of its bounds.
-#[tactic(auto, using(crate::proofs::Inside::fields), unfolding(crate::proofs::Inside::fields_open))]
+#[tactic(auto, using(crate::proofs::Inside::fields), unfolding(crate::specs::Located::wrong_field, humantime::specs::Timestamps::has_digits))]
 fn wrong_field(bytes: &[u8]) -> (usize, usize)
     requires long { 19 ≤ length bytes.now }
     requires digits { has_digits bytes.now ≡ true }
@@ -396,7 +369,7 @@ fn wrong_field(bytes: &[u8]) -> (usize, usize)
 }
 
 /// Returns the number that two digits represent.
-#[tactic(auto, using(crate::proofs::Inside::number_of_pair))]
+#[tactic(auto, using(humantime::proofs::TimestampParts::has_two_from_test, humantime::proofs::TimestampParts::number_of_two))]
 fn pair(bytes: &[u8], at: usize) -> u32
     requires long { at + 2 ≤ length bytes.now }
     requires digits { has_two bytes.now at ≡ true }
