@@ -2,7 +2,6 @@
 use Rattle.std.proofs.Common.{◌≡◌, ℕ, zero, suc, ◌+◌, ◌-◌, ◌*◌, ◌<◌, ◌≤◌, List, ◌∷◌, length, get_or, drop, arith, rules}
 use Rattle.std.specs.Prelude.{true, Bool}
 use Rattle.std.specs.Char.{is_ascii_digit}
-use Rattle.std.specs.Bool.{Decides}
 use Rattle.std.specs.Int.{is_in_range}
 use Rattle.std.specs.List.{AllByRecursion, prefix_len, zip}
 use Rattle.std.specs.Str.{IsUtf8, IsCharBoundary}
@@ -83,13 +82,9 @@ timestamp_inside b utf8 long seconds =
     let n : ℕ = zone_len (drop from b) in
     grind (arith, (fraction_ascii b long seconds), (zone_ascii (drop from b)), (length-drop from b), (get_or-drop from b (n - 1) 0), (IsCharBoundary-end b), (after_ascii b (from + n) utf8))
 
--- A byte inside a character continues it.
-continues : (b : List ℕ) (i : ℕ) → i < length b → Decides (is_in_range 128 191 (get_or b i 0)) (¬ (IsCharBoundary b i))
-continues b i some = grind (arith, nat_tests)
-
 -- The first boundary after an offset is the end of the character there.
 pub char_end_is : (b : List ℕ) (at end : ℕ) → at ≤ length b → (at + 1 ≤ length b → at + 1 ≤ end) → IsCharBoundary b end
     → ((i : ℕ) → at + 1 ≤ i → i < end → ¬ (IsCharBoundary b i)) → (length b < at + 1 → end ≡ length b) → end ≡ char_end b at
 unfolding char_end
 char_end_is b at end inside bound boundary nearest beyond =
-    grind (arith, (continues b), (length-drop (at + 1) b), (get_or-drop (at + 1) b), (prefix_len_is (is_in_range 128 191) (drop (at + 1) b) (end - (at + 1)) 0))
+    grind (arith, nat_tests, (length-drop (at + 1) b), (get_or-drop (at + 1) b), (prefix_len_is (is_in_range 128 191) (drop (at + 1) b) (end - (at + 1)) 0))

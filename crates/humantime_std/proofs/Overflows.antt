@@ -75,9 +75,6 @@ read_to text front rest spans (suc k) r begins =
     let one = read_on text front rest spans r begins.0 in
     rw append_assoc at (read_to text (front ++ one.0) (next_of rest) (spans ++ span_of rest ∷ []) k one.1 begins.1)
 
-reads : (text : List ℕ) (k : ℕ) → BeginsSpans k (body text) → (before : List ℕ) × IsReadTo text before (take_spans k (body text)) (drop_spans k (body text))
-reads text k begins = read_to text _ (body text) [] k (begun text) begins
-
 -- ---- The spans that the iterator gives
 
 none_or_some : (found : Option Fault) → (found ≡ None) ⊎ ((e : Fault) × (found ≡ Some e))
@@ -105,23 +102,21 @@ nth_is text it u r k are ran =
 
 -- ---- The ends of spans
 
-word_ends : (rest : List ℕ) → (before : List ℕ) × (rest ≡ before ++ after_word rest)
-unfolding is_point
-word_ends rest = (take_while is_numeric rest ++ (point_and_digits (after_number rest) ++ word_of rest), grind (arith, common_steps, take_while-drop_while))
-
 -- What follows the word of the span at the start of a rest.
 cut_after_word : (bs front rest : List ℕ) → IsUtf8 bs → chars bs ≡ front ++ rest → let end = offset_of (chars bs) (after_word rest) in
     (offset_of (chars bs) rest ≤ end) × IsCharBoundary bs end × (chars (drop end bs) ≡ after_word rest)
+unfolding is_point
 cut_after_word bs front rest utf8 whole =
-    let word = word_ends rest in
-    let cut = cut_at bs (front ++ word.0) (after_word rest) utf8 (grind (arith, append_assoc, whole, word.1)) in
-    let size = ap (λ (r : List ℕ). length (encode_utf8_all r)) word.1 in
+    let span = take_while is_numeric rest ++ (point_and_digits (after_number rest) ++ word_of rest) in
+    let parts : rest ≡ span ++ after_word rest = grind (arith, common_steps, take_while-drop_while) in
+    let cut = cut_at bs (front ++ span) (after_word rest) utf8 (grind (arith, append_assoc, whole, parts)) in
+    let size = ap (λ (r : List ℕ). length (encode_utf8_all r)) parts in
     (grind (arith, size, encodes-append, length-append), cut.0, cut.2)
 
 pub after_span : (bs : List ℕ) (k : ℕ) → IsUtf8 bs → BeginsSpans (suc k) (body (chars bs))
     → IsCharBoundary bs (end_at k (chars bs)) × (chars (drop (end_at k (chars bs)) bs) ≡ after_word (drop_spans k (body (chars bs))))
 after_span bs k utf8 begins =
-    let before = reads (chars bs) k ((one_more _ k).2.0 begins).0 in
+    let before = read_to (chars bs) _ (body (chars bs)) [] k (begun (chars bs)) ((one_more _ k).2.0 begins).0 in
     let cut = cut_after_word bs before.0 (drop_spans k (body (chars bs))) utf8 before.1.split.whole in
     (cut.1, cut.2)
 
@@ -132,7 +127,7 @@ pub front_decides : (bs tail t : List ℕ) (k end : ℕ) → IsUtf8 bs → IsUtf
 front_decides bs tail t k end utf8 other found cut trim =
     let next : length bs - length t ≡ start_at (suc k) (chars bs) =
     rw ((one_more (body (chars bs)) k).0) (rw (cut, found.1, (after_span bs k utf8 found.0).1) at (trimmed_at bs tail t utf8 other trim)) in
-    let before = reads (chars bs) (suc k) found.0 in
+    let before = read_to (chars bs) _ (body (chars bs)) [] (suc k) (begun (chars bs)) found.0 in
     let spans = take_spans (suc k) (body (chars bs)) in
     let front = cut_at bs before.0 _ utf8 before.1.split.whole in
     let read : Reads before.0 spans = (before.1.split.spelled, λ none. grind arith) in
@@ -146,7 +141,7 @@ pub overflows_after : (bs : List ℕ) (k : ℕ) (end : Option ℕ) → IsUtf8 bs
     → SomeIff end (BeginsSpans (suc k) (body (chars bs))) (end_at k (chars bs)) → OverflowsAt (chars bs) (start_at k (chars bs)) (unwrap_or end (length bs))
 overflows_after bs k (Some end) utf8 over fit beyond is =
     let h = fault_from_outcome _ _ over in
-    let before = reads (chars bs) k fit.begins in
+    let before = read_to (chars bs) _ (body (chars bs)) [] k (begun (chars bs)) fit.begins in
     let more = one_more (body (chars bs)) k in
     let span = (more.2.0 is.0).1 in
     record {
@@ -156,7 +151,7 @@ overflows_after bs k (Some end) utf8 over fit beyond is =
     }
 overflows_after bs k None utf8 over fit beyond none =
     let h = fault_from_outcome _ _ over in
-    let before = reads (chars bs) k fit.begins in
+    let before = read_to (chars bs) _ (body (chars bs)) [] k (begun (chars bs)) fit.begins in
     let rest = drop_spans k (body (chars bs)) in
     let spans = take_spans k (body (chars bs)) in
     let stop : (e : Fault) × (fault_at (chars bs) rest ≡ Some e) = grind (arith, (none_or_some (fault_at (chars bs) rest)), (is_fine (chars bs) rest), (one_more (body (chars bs)) k), none, (fit.begins)) in

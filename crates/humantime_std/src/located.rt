@@ -276,15 +276,15 @@ fn fitting_end(text: &str, index: usize) -> Option<usize>
     let (_, rest) = text.split_at(span_end(text, index)?);
     let end = text.len() - rest.trim_start().len();
     let (front, _) = text.split_at(end);
-    humantime::parse_duration(front).ok()?;
-    Some(end)
+    humantime::parse_duration(front).ok().map(|_| end)
 }
 
 /// Returns the offset after the span at an index, if there is one.
 fn span_end(text: &str, index: usize) -> Option<usize>
     ensures { SomeIff result (BeginsSpans (suc index) (body (chars text.now))) (end_at index (chars text.now)) }
 {
-    spans(text).nth(index)?.ok().map(|span| span.end())
+    let item = spans(text).nth(index);
+    item.and_then(Result::ok).map(|span| span.end())
 }
 
 /// Returns an error of a timestamp with its range.
@@ -320,22 +320,13 @@ fn char_end(text: &str, at: usize) -> usize
 fn fit_len(text: &str, strict: bool) -> usize
     ensures { result ≡ spec.fit_len strict text.now }
 {
-    LAYOUT
-        .iter()
-        .zip(text.as_bytes())
-        .take_while(|(place, byte)| fits(strict, **place, **byte))
-        .count()
-}
-
-/// Returns `true` if a byte can stand at this place of the layout.
-fn fits(strict: bool, place: u8, byte: u8) -> bool
-    ensures { result ≡ spec.fits strict place byte }
-{
-    match place {
+    let fits = |(place, byte): &(&u8, &u8)| match **place {
         b'0' => byte.is_ascii_digit(),
-        b' ' => byte == b'T' || byte == b' ' && !strict,
-        _ => byte == place,
-    }
+        b' ' => **byte == b'T' || **byte == b' ' && !strict,
+        other => **byte == other,
+    };
+    let bytes = text.as_bytes().iter();
+    LAYOUT.iter().zip(bytes).take_while(fits).count()
 }
 
 /// Returns the bytes of the first number that is out of its bounds.
