@@ -1,62 +1,30 @@
 //! The library's results of calls about durations.
 
 use crate::display::is_always_written;
-use crate::values::Value;
+use crate::values::parts;
 use crate::writing::{all_agree, write_result};
 use humantime::{
-    Duration, DurationError, FormattedDuration, Span, StdDuration, canonical, format_duration,
-    parse_duration, spans,
+    Duration, DurationError, Span, StdDuration, canonical, format_duration, parse_duration, spans,
 };
 use std::fmt::{self, Formatter, Write};
 
-/// Writes the seconds and nanoseconds of the string, or its error, which leaves the buffer unchanged and does not borrow it.
-pub(crate) fn parse<W: fmt::Write>(f: &mut Formatter<W>, text: &str) -> fmt::Result {
-    let mut buf = [b'-'; 64];
-    let wrapped = Duration::from_str(text);
+/// Writes the seconds and nanoseconds of the string, or its error, which is also that of `canonical`.
+pub(crate) fn parse<W: Write>(f: &mut Formatter<W>, text: &str) -> fmt::Result {
+    let mut buf = [0; 64];
     match parse_duration(text) {
         Ok(value) => {
-            let printed = canonical(text, &mut buf).unwrap_or_default();
-            let is_agreed = wrapped == Ok(Duration::from(value)) && is_printed(value, printed);
-            write_result(f, Ok::<_, ()>(value.parts()), is_agreed)
+            let is_agreed = is_printed(value, canonical(text, &mut buf).unwrap_or_default());
+            write_result(f, Ok::<_, ()>(parts(value)), is_agreed)
         }
         Err(error) => {
-            let refused = canonical(text, &mut buf).err();
-            let is_unchanged = buf == [b'-'; 64];
-            buf[0] = b'x';
-            let is_agreed = all_agree(&[
-                is_unchanged,
-                refused == Some(error),
-                wrapped == Err(error),
-                points_into(error, text),
-                error.clone().ok() == Some(error),
-            ]);
+            let is_agreed = canonical(text, &mut buf).err() == Some(error);
             write_result(f, Err::<(), _>(error), is_agreed)
         }
     }
 }
 
-/// Returns whether the offsets of the error lie on `char` boundaries of the string, with its unit between them.
-fn points_into(error: DurationError<'_>, text: &str) -> bool {
-    match error {
-        DurationError::InvalidCharacter(at) | DurationError::NumberExpected(at) => {
-            text.is_char_boundary(at)
-        }
-        DurationError::UnknownUnit {
-            start,
-            end,
-            unit,
-            ..
-        } => text.get(start..end) == Some(unit),
-        DurationError::NumberOverflow | DurationError::Empty => true,
-    }
-}
-
 /// Writes the messages of the two kinds of error that have an offset, with this offset.
-pub(crate) fn misplace<W: fmt::Write>(
-    f: &mut Formatter<W>,
-    at: usize,
-    wanted: &str,
-) -> fmt::Result {
+pub(crate) fn misplace<W: Write>(f: &mut Formatter<W>, at: usize, wanted: &str) -> fmt::Result {
     let invalid = DurationError::InvalidCharacter(at);
     let expected = DurationError::NumberExpected(at);
     let (first, second) = wanted.split_once(", ").unwrap_or_default();
@@ -66,37 +34,26 @@ pub(crate) fn misplace<W: fmt::Write>(
 }
 
 /// Writes the printed string of a duration.
-pub(crate) fn print<W: fmt::Write>(f: &mut Formatter<W>, value: StdDuration) -> fmt::Result {
-    let printed = format_duration(value);
-    let is_agreed = is_printed(value, printed.text(&mut [0; 64]));
-    write_result(f, format_args!("\"{printed}\""), is_agreed)
+pub(crate) fn print<W: Write>(f: &mut Formatter<W>, value: StdDuration) -> fmt::Result {
+    let (printed, mut buf) = (format_duration(value), [0; 64]);
+    let text = printed.text(&mut buf);
+    write_result(f, text, is_printed(value, text))
 }
 
 /// Returns whether every call that prints the duration prints this string, and the string is parsed to the duration.
 fn is_printed(value: StdDuration, text: &str) -> bool {
-    let printed = format_duration(value);
-    let is_cloned = match printed.clone() {
-        Ok(same) => is_front(&same, text),
-        Err(_) => false,
-    };
+    let (printed, mut buf) = (format_duration(value), [b'x'; 64]);
     all_agree(&[
-        *printed.get_ref() == value,
-        is_front(&printed, text),
-        is_cloned,
+        printed.text(&mut buf) == text,
+        buf.starts_with(text.as_bytes()),
         parse_duration(text) == Ok(value),
         is_always_written(&printed, text, 1),
         is_always_written(&Duration::from(value), text, 1),
     ])
 }
 
-/// Returns whether the duration is printed as this string at the front of the buffer, whatever the buffer held before.
-fn is_front(printed: &FormattedDuration, text: &str) -> bool {
-    let mut buf = [b'x'; 64];
-    printed.text(&mut buf) == text && buf.starts_with(text.as_bytes())
-}
-
 /// Writes the items of the string, and what three more calls return after the last one.
-pub(crate) fn split<W: fmt::Write>(f: &mut Formatter<W>, text: &str) -> fmt::Result {
+pub(crate) fn split<W: Write>(f: &mut Formatter<W>, text: &str) -> fmt::Result {
     let mut items = spans(text);
     for item in items.by_ref() {
         match item {
@@ -109,13 +66,12 @@ pub(crate) fn split<W: fmt::Write>(f: &mut Formatter<W>, text: &str) -> fmt::Res
 }
 
 /// Writes `Ok((NUMBER, FRACTION, UNIT, START, END, VALUE)), ` for a span, with its strings as they are: `{:?}` would write escapes.
-fn write_span<W: fmt::Write>(f: &mut Formatter<W>, span: Span<'_>) -> fmt::Result {
-    let copy = span; // which shows that a span can be copied
-    write!(f, "Ok((\"{}\", ", copy.number())?;
-    match copy.fraction() {
+fn write_span<W: Write>(f: &mut Formatter<W>, span: Span<'_>) -> fmt::Result {
+    write!(f, "Ok((\"{}\", ", span.number())?;
+    match span.fraction() {
         Some(fraction) => write!(f, "Some(\"{fraction}\")")?,
         None => f.write_str("None")?,
     }
     let (start, end, value) = (span.start(), span.end(), span.value());
-    write!(f, ", \"{}\", {start}, {end}, {value})), ", copy.unit())
+    write!(f, ", \"{}\", {start}, {end}, {value})), ", span.unit())
 }

@@ -22,27 +22,25 @@ use std::process::ExitCode;
 
 fn main(rt: HostRuntime) -> io::Result<ExitCode> {
     let table = io::read_to_string(rt.alloc(), rt.stdin())?;
-    let mut tally = Tally {
-        room: String::new(rt.alloc()),
-        holds: 0,
-        differs: 0,
-        found: 0,
-    };
+    let mut room = String::new(rt.alloc());
+    let mut tally = Tally::default();
     for line in table.as_str().lines() {
         if !line.is_empty() && !line.starts_with('#') {
-            tally.try_line(&rt, line)?;
+            tally.try_line(&rt, line, &mut room)?;
         }
     }
-    let (holds, differs, found) = (tally.holds, tally.differs, tally.found);
+    let Tally {
+        holds,
+        differs,
+        found,
+    } = tally;
     println!(rt; "{holds} rows hold, {differs} do not, {found} wrong ones differ")?;
     Ok(ExitCode::from(u8::from(differs > 0)))
 }
 
 /// The rows that were tried.
-#[derive(Drop)]
+#[derive(Clone, Copy, Default)]
 struct Tally {
-    /// The strings of a row.
-    room: String,
     /// How many rows hold.
     holds: u64,
     /// How many rows differ, or are wrong on purpose and do not.
@@ -52,41 +50,32 @@ struct Tally {
 }
 
 impl Tally {
-    /// Tries the rows of a line.
-    fn try_line(&mut self, rt: &impl Print, line: &str) -> io::Result<()> {
-        let rows = line.strip_prefix("wrong: ");
-        let (calls, arguments, wanted) = split_line(rows.unwrap_or(line));
+    /// Tries the rows of a line, in a room for the strings of each.
+    fn try_line(&mut self, rt: &impl Print, line: &str, room: &mut String) -> io::Result<()> {
+        let (mark, rows) = match line.strip_prefix("wrong: ") {
+            Some(rows) => ("wrong: ", rows),
+            None => ("", line),
+        };
+        let (calls, arguments, wanted) = split_line(rows);
         for call in calls.split('|') {
-            self.try_call(rt, call, arguments, wanted, rows.is_some())?;
-        }
-        Ok(())
-    }
-
-    /// Tries a call with each of these arguments.
-    fn try_call(
-        &mut self,
-        rt: &impl Print,
-        call: &str,
-        arguments: &str,
-        wanted: &str,
-        is_wrong: bool,
-    ) -> io::Result<()> {
-        for argument in arguments.split(", ") {
-            let row = Row::new(call, argument, wanted, &mut self.room)?;
-            let gap = if argument.is_empty() { "" } else { " " };
-            match (row.holds(), is_wrong) {
-                (true, false) => self.holds = self.holds.saturating_add(1),
-                (false, true) => {
-                    println!(rt; "wrong: {call}{gap}{argument} = {wanted}; the result is {row}")?;
-                    self.found = self.found.saturating_add(1);
-                }
-                (holds, _) => {
-                    let mark = if holds { "wrong: " } else { "" };
-                    println!(rt;
-                        "{mark}{call}{gap}{argument} = {wanted}, but the result is {row}"
-                    )?;
-                    self.differs = self.differs.saturating_add(1);
-                }
+            for argument in arguments.split(", ") {
+                let row = Row::new(call, argument, wanted, room)?;
+                let link = match (row.holds(), mark.is_empty()) {
+                    (true, true) => {
+                        self.holds = self.holds.saturating_add(1);
+                        continue;
+                    }
+                    (false, false) => {
+                        self.found = self.found.saturating_add(1);
+                        ";"
+                    }
+                    _ => {
+                        self.differs = self.differs.saturating_add(1);
+                        ", but"
+                    }
+                };
+                let gap = if argument.is_empty() { "" } else { " " };
+                println!(rt; "{mark}{call}{gap}{argument} = {wanted}{link} the result is {row}")?;
             }
         }
         Ok(())

@@ -47,8 +47,11 @@ impl<'a> Row<'a> {
 }
 
 impl Display for Row<'_> {
-    fn fmt<W: fmt::Write>(&self, f: &mut Formatter<W>) -> fmt::Result {
-        write_call(f, *self)
+    fn fmt<W: Write>(&self, f: &mut Formatter<W>) -> fmt::Result {
+        match write_call(f, *self) {
+            Some(written) => written,
+            None => f.write_str("no result"),
+        }
     }
 }
 
@@ -59,20 +62,15 @@ pub fn split_line(line: &str) -> (&str, &str, &str) {
     (calls, arguments, wanted)
 }
 
-/// Appends the string with each `\u{HEX}` replaced by its character. From the first invalid one on, it is appended as it is.
+/// Appends the string with each `\u{HEX}` replaced by its character.
 fn unescape(text: &str, out: &mut String) -> Result<(), AllocError> {
-    let mut rest = text;
-    for _ in 0..text.len() {
-        if let Some((before, behind)) = rest.split_once("\\u{")
-            && let Some((number, after)) = behind.split_once('}')
-            && let Ok(number) = u32::from_str_radix(number, 16)
-            && let Some(character) = char::from_u32(number)
-        {
-            write!(out, "{before}{character}")?;
-            rest = after;
-        } else {
-            break;
-        }
+    let mut parts = text.split("\\u{");
+    out.push_str(parts.next().unwrap_or_default())?;
+    for part in parts {
+        let (number, after) = part.split_once('}').unwrap_or_default();
+        let number = u32::from_str_radix(number, 16).unwrap_or(u32::MAX);
+        let character = char::from_u32(number).unwrap_or(char::REPLACEMENT_CHARACTER);
+        write!(out, "{character}{after}")?;
     }
-    out.push_str(rest)
+    Ok(())
 }

@@ -9,7 +9,7 @@ pub(crate) fn all_agree(comparisons: &[bool]) -> bool {
 }
 
 /// Writes a value in `{:?}` form, followed by a note if another call or a format does not agree with it.
-pub(crate) fn write_result<W: fmt::Write, T: Debug + Drop>(
+pub(crate) fn write_result<W: Write, T: Debug + Drop>(
     f: &mut Formatter<W>,
     value: T,
     is_agreed: bool,
@@ -22,23 +22,13 @@ pub(crate) fn write_result<W: fmt::Write, T: Debug + Drop>(
     write!(f, "{value:?}{note}")
 }
 
-/// Writes that there is no result: the name of the call or its numbers cannot be parsed, or the string has no error.
-pub(crate) fn no_result<W: fmt::Write>(f: &mut Formatter<W>) -> fmt::Result {
-    f.write_str("no result")
-}
-
 /// Writes the message of an error, followed by a note if some format changes it or needs more than `most` writes.
-pub(crate) fn write_message<W: fmt::Write, E: Display + Copy>(
+pub(crate) fn write_message<W: Write, E: Display + Copy>(
     f: &mut Formatter<W>,
-    error: Option<E>,
+    error: E,
     wanted: &str,
     most: u32,
 ) -> fmt::Result {
-    match error {
-        Some(error) => {
-            let is_agreed = is_always_written(&error, wanted, most);
-            write_result(f, format_args!("{error}"), is_agreed)
-        }
-        None => no_result(f),
-    }
+    let is_agreed = is_always_written(&error, wanted, most);
+    write_result(f, format_args!("{error}"), is_agreed)
 }
