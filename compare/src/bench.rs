@@ -190,20 +190,10 @@ macro_rules! race_parser {
 }
 
 fn texts_parsed() {
+    let greatest = format_duration(Duration::MAX).to_string();
     let durations = [
-        "2h 37min",
-        "1.234s 1.345ms 1.678us 1ns",
-        "15days 2min 2s",
-        "584542046090years 7months 15days 17h 5m 3s 999ms 999us 999ns",
-        "12\u{3000}s 163µs",
-        "163µs",
-        "0",
-        "100000000000000000us 1foo",
-        "1foo~",
-        "10nights",
-        "12 34",
-        "1h x",
-        "20000000000000000000s",
+        "2h 37min", "1.234s 1.345ms 1.678us 1ns", "15days 2min 2s", &greatest, "12\u{3000}s 163µs", "163µs", "0",
+        "100000000000000000us 1foo", "1foo~", "10nights", "12 34", "1h x", "20000000000000000000s",
     ];
     let timestamps = [
         "2018-02-14T00:28:07Z", "2018-02-14T00:28:07.133Z", "2018-02-14T00:28:07.123456789Z", "2018-02-14T00:28:07+00:00",
