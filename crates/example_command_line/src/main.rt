@@ -1,6 +1,6 @@
 //! Prints the options of a command line. `--help` shows their defaults in canonical form, and a wrong value gets a mark.
 //!
-//! The exit status is 0, or 2 for wrong arguments, or 3 if writing fails or memory is refused.
+//! The exit status is 0, or 2 for wrong arguments, or 1 if writing fails or memory is refused.
 #![tactic(auto)]
 
 use clap::error::ErrorKind;
@@ -21,29 +21,20 @@ pub struct Options {
     pub since: Option<Timestamp>,
 }
 
-fn main(rt: HostRuntime) -> ExitCode {
-    let status = run(&rt).unwrap_or_else(|error| {
-        let _ = eprintln!(rt; "example_command_line: {error}"); // The status tells it, too.
-        3
-    });
-    ExitCode::from(status)
-}
-
-/// Prints the options, or what is wrong with them, and returns the exit status.
-fn run(rt: &HostRuntime) -> io::Result<u8> {
-    let words = env::args(rt)?.collect::<Vec<String>>(rt.alloc())?;
+fn main(rt: HostRuntime) -> io::Result<ExitCode> {
+    let words = env::args(&rt)?.collect::<Vec<String>>(rt.alloc())?;
     match options_of(rt.alloc(), &words) {
         Ok(options) => {
             println!(rt; "timeout {}, window {}", options.timeout, options.window)?;
             if let Some(since) = options.since {
                 println!(rt; "since {since}")?;
             }
-            Ok(0)
+            Ok(ExitCode::SUCCESS)
         }
         Err(error) if error.kind() == ErrorKind::OutOfMemory => Err(AllocError.into()),
         Err(error) => {
-            error.print(rt)?;
-            Ok(error.exit_code() as u8)
+            error.print(&rt)?;
+            Ok(ExitCode::from(error.exit_code() as u8))
         }
     }
 }

@@ -2,7 +2,7 @@
 //!
 //! A line has its timestamp at the front. A line without one goes with the line before it, and is left out if there is none.
 //!
-//! The exit status is 0, or 2 for wrong arguments, or 3 if reading or writing fails or memory is refused.
+//! The exit status is 0, or 2 for wrong arguments, or 1 if reading or writing fails or memory is refused.
 #![tactic(auto)]
 
 use humantime::{SystemTime, TimestampError, parse_rfc3339_weak};
@@ -19,32 +19,23 @@ const PIECE: u64 = 65_536;
 /// The length of a date and the byte after it, which may be a space.
 const DATE: usize = 11;
 
-fn main(rt: HostRuntime) -> ExitCode {
-    let status = run(&rt).unwrap_or_else(|error| {
-        let _ = eprintln!(rt; "example_log: {error}"); // The status tells it, too.
-        3
-    });
-    ExitCode::from(status)
-}
-
-/// Copies the lines between the times that the arguments name, and returns the exit status.
-fn run(rt: &HostRuntime) -> io::Result<u8> {
-    let words = env::args(rt)?.skip(1).collect::<Vec<String>>(rt.alloc())?;
+fn main(rt: HostRuntime) -> io::Result<ExitCode> {
+    let words = env::args(&rt)?.skip(1).collect::<Vec<String>>(rt.alloc())?;
     let [from, to] = words.as_slice() else {
         eprintln!(rt; "usage: example_log FROM TO")?;
-        return Ok(2);
+        return Ok(ExitCode::from(2));
     };
     match range_of(from, to) {
         Ok(range) => {
             let mut log = BufReader::new(rt.alloc(), rt.stdin())?;
             let mut out = BufWriter::new(rt.alloc(), rt.stdout())?;
             copy_lines(rt.alloc(), &range, &mut log, &mut out)?;
-            Ok(0)
+            Ok(ExitCode::SUCCESS)
         }
         Err((name, text, error)) => {
             let mark = error.underline(text);
             eprintln!(rt; "example_log: {name}: {error}\n  {text}\n  {mark}")?;
-            Ok(2)
+            Ok(ExitCode::from(2))
         }
     }
 }

@@ -2,7 +2,7 @@
 //!
 //! A line of the file is a job's name, the time of its last run and its period, with spaces or tabs between them. RETRY is
 //! `FIRST..MOST xN`: the delay after the first failure, the longest delay, and how many times as long each delay is as the one before. The
-//! exit status is 0, or 1 if the file cannot be read or a line is wrong, 2 if an argument is, and 3 if writing fails or memory is refused.
+//! exit status is 0, or 2 if an argument or a line is wrong, or 1 if reading or writing fails or memory is refused.
 #![tactic(auto)]
 
 ghost use Rattle.std.specs.Prelude.{◌≡◌, ◌*◌, min};
@@ -126,48 +126,34 @@ fn print_all(rt: &(impl Print + Eprint), text: &str, now: SystemTime) -> io::Res
             Ok(job) => print_next(rt, job, now)?,
             Err(wrong) => {
                 eprintln!(rt; "line {}: {wrong}", index + 1)?;
-                status = 1;
+                status = 2;
             }
         }
     }
     Ok(status)
 }
 
-fn run(rt: &HostRuntime) -> io::Result<u8> {
-    let words = env::args(rt)?.skip(1).collect::<Vec<String>>(rt.alloc())?;
+fn main(rt: HostRuntime) -> io::Result<ExitCode> {
+    let words = env::args(&rt)?.skip(1).collect::<Vec<String>>(rt.alloc())?;
     let [path, now, retry] = words.as_slice() else {
         eprintln!(rt; "usage: schedule FILE NOW RETRY")?;
-        return Ok(2);
+        return Ok(ExitCode::from(2));
     };
-    match (read_time(now), read_retry(retry)) {
-        (Ok(now), Ok(retry)) => print_file(rt, path, now, retry),
+    let (now, retry) = match (read_time(now), read_retry(retry)) {
+        (Ok(now), Ok(retry)) => (now, retry),
         (Err(wrong), _) | (_, Err(wrong)) => {
             eprintln!(rt; "schedule: {wrong}")?;
-            Ok(2)
+            return Ok(ExitCode::from(2));
         }
-    }
-}
-
-/// Prints the next run of each job in a file, and then the delays after failures. Returns the exit status.
-fn print_file(rt: &HostRuntime, path: &str, now: SystemTime, retry: Retry) -> io::Result<u8> {
-    match fs::read_to_string(rt, path) {
-        Ok(text) => {
-            let status = print_all(rt, &text, now)?;
-            print_delays(rt, retry)?;
-            Ok(status)
-        }
-        Err(error) if error.kind() == io::ErrorKind::OutOfMemory => Err(error),
+    };
+    let text = match fs::read_to_string(&rt, path.as_str()) {
+        Ok(text) => text,
         Err(error) => {
             eprintln!(rt; "{path}: {error}")?;
-            Ok(1)
+            return Ok(ExitCode::FAILURE);
         }
-    }
-}
-
-fn main(rt: HostRuntime) -> ExitCode {
-    let status = run(&rt).unwrap_or_else(|error| {
-        let _ = eprintln!(&rt; "schedule: {error}");
-        3
-    });
-    ExitCode::from(status)
+    };
+    let status = print_all(&rt, &text, now)?;
+    print_delays(&rt, retry)?;
+    Ok(ExitCode::from(status))
 }

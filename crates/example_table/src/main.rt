@@ -1,6 +1,6 @@
 //! Prints the lines `NAME<TAB>DURATION` of standard input as a table, with each share of the total, the total, the mean and the longest.
 //!
-//! The exit status is 0, or 1 if a line is wrong, or 3 if reading or writing fails or memory is refused.
+//! The exit status is 0, or 2 if a line is wrong, or 1 if reading or writing fails or memory is refused.
 #![tactic(auto)]
 
 use humantime::{DurationError, StdDuration, format_duration};
@@ -29,14 +29,10 @@ enum Fault<'a> {
     TotalTooLong,
 }
 
-fn main(rt: HostRuntime) -> ExitCode {
-    let text = io::read_to_string(rt.alloc(), rt.stdin());
-    let ran = text.and_then(|text| run(rt.alloc(), &text, &mut rt.stdout(), &mut rt.stderr()));
-    let status = ran.unwrap_or_else(|error| {
-        let _ = eprintln!(rt; "example_table: {error}"); // The status tells it, too.
-        3
-    });
-    ExitCode::from(status)
+fn main(rt: HostRuntime) -> io::Result<ExitCode> {
+    let text = io::read_to_string(rt.alloc(), rt.stdin())?;
+    let status = run(rt.alloc(), &text, &mut rt.stdout(), &mut rt.stderr())?;
+    Ok(ExitCode::from(status))
 }
 
 /// Writes the table of a text, or what is wrong with its first wrong line, and returns the exit status.
@@ -60,7 +56,7 @@ pub fn run(
                 let mark = mark_of(line, fault);
                 let number = index + 1;
                 writeln!(err, "example_table: line {number}: {fault}\n{line}\n{mark}")?;
-                return Ok(1);
+                return Ok(2);
             }
         }
     }
