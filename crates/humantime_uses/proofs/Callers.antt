@@ -1,15 +1,13 @@
 -- Lemmas that proofs of callers cite.
-use Rattle.std.proofs.Common.{◌≡◌, ℕ, ◌+◌, ◌-◌, ◌≤◌, List, [], ◌∷◌, Option, None, Some, Result, Ok, refl, sym, arith}
+use Rattle.std.proofs.Common.{◌≡◌, ℕ, ◌+◌, ◌-◌, ◌≤◌, List, Ok, sym, arith}
 use Rattle.std.specs.Prelude.{⊤, ℤ}
 use Rattle.std.specs.Cmp.Lexicographic.{slice_cmp}
 use Rattle.std.specs.Ordering.{nat_cmp, int_cmp}
 use Rattle.std.proofs.lemmas.Bool.Decides.{nat_tests}
 use Rattle.humantime.specs.Calendar.{days_in_month, days_of_years, days_of_months}
-use Rattle.humantime.specs.Prelude.{AreItems, Fault, IsPrintedWith, SpanView, strict_answer}
-use Rattle.humantime.specs.Items.{items_of}
+use Rattle.humantime.specs.Prelude.{IsPrintedWith, strict_answer}
 use Rattle.humantime.proofs.Dates.{days_of_months_closed, days_of_years_closed, valid_from_test}
 use Rattle.humantime.proofs.Theorems.{day_at_most, texts_in_order}
-use Rattle.humantime_uses.specs.SpanItems.{EndsAtError}
 
 -- ---- the days before a month, where years and months are counted one by one
 
@@ -32,16 +30,6 @@ pub ruleset counted = (year_counted, month_counted, month_within, days_of_years_
 unfoldable pub days : ⊤
 unfolding days_of_years days_of_months
 days = tt
-
--- ---- no item of a text follows an error
-
-listed_end : (slices : List SpanView) (stop : Option Fault) → EndsAtError (items_of slices stop)
-listed_end [] None = tt
-listed_end [] (Some e) = refl
-listed_end (x ∷ xs) stop = listed_end xs stop
-
-pub items_end : (text : List ℕ) (items : List (Result SpanView Fault)) → AreItems text items → EndsAtError items
-items_end text items are = rw (are.are) (listed_end are.slices are.stop)
 
 -- ---- printed texts with milliseconds compare, byte by byte, like the moments that they parse to
 

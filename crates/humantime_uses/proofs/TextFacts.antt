@@ -1,14 +1,14 @@
 -- What texts of durations consist of, at any length: whitespace, digits, letters, points, the words of the units, spans; and messages.
-use Rattle.std.proofs.Common.{◌≡◌, ◌≢◌, ℕ, List, [], ◌∷◌, ◌++◌, Some, map, filter, refl, arith, append-nil}
+use Rattle.std.proofs.Common.{◌≡◌, ◌≢◌, ℕ, List, [], ◌∷◌, ◌++◌, None, Some, Ok, Err, map, filter, refl, arith, append-nil}
 use Rattle.std.specs.Prelude.{codes, bytes_eq, decimal, ◌&&◌, ◌||◌, ◌==◌, nat_le, not, true, IsPermutation}
 use Rattle.std.specs.Char.{char_set_contains}
 use Rattle.std.specs.Map.{lookup}
 use Rattle.std.specs.Str.{byte}
 use Rattle.std.proofs.lemmas.Grind.{common_steps}
 use Rattle.humantime.specs.declared.TimestampError.TheVariants.{OutOfRange, InvalidDigit, InvalidFormat}
-use Rattle.humantime.specs.Prelude.{AreReordered, Reads, SpelledSpan, InvalidCharacter, NumberExpected, UnknownUnit, NumberOverflow, Empty, fault_message, timestamp_message, without_whitespace}
+use Rattle.humantime.specs.Prelude.{AreReordered, Reads, SpanView, SpelledSpan, Fault, InvalidCharacter, NumberExpected, UnknownUnit, NumberOverflow, Empty, fault_message, timestamp_message, without_whitespace}
 use Rattle.humantime.specs.Laws.{is_gap}
-use Rattle.humantime.specs.Items.{IsDigitSlice}
+use Rattle.humantime.specs.Items.{IsDigitSlice, items_of}
 use Rattle.humantime.specs.Characters.{begins, ends, whitespace_chars, is_whitespace, is_digit, is_letter, is_point}
 use Rattle.humantime.specs.Durations.{HasOnly, HoldsDigits, IsLetters, in_nanos, in_seconds, in_seconds_and_nanos, scale_of_word, whole_nanos, words}
 use Rattle.humantime.proofs.Characters.{digit_is_numeric}
@@ -98,6 +98,11 @@ any_span before number ds word after white digits some fraction any letters more
 -- The slice of a number or a fraction begins and ends with a digit.
 digit_ends : (text slice : List ℕ) → IsDigitSlice text slice → (begins is_digit slice ≡ true) × (ends is_digit slice ≡ true)
 digit_ends text slice is = (is.first_digit, is.last_digit)
+
+-- The items are those of the spans and then the error, if there is one. So none follows an error.
+any_items : (slices : List SpanView) (e : Fault)
+    → (items_of slices None ≡ map Ok slices ++ []) × (items_of slices (Some e) ≡ map Ok slices ++ Err e ∷ [])
+any_items slices e = (refl, refl)
 
 -- Spans may be in any other order.
 any_order : (text other : List ℕ) (spans others : List SpelledSpan) → Reads text spans → Reads other others → IsPermutation spans others

@@ -1,5 +1,5 @@
--- The items of a text: the longest span, and the error at their end.
-use Rattle.std.specs.Prelude.{◌≡◌, ⊤, ℕ, List, [], ◌∷◌, Result, Ok, Err, chars, max, slice_range, unwrap_or}
+-- The longest span of a text.
+use Rattle.std.specs.Prelude.{ℕ, List, [], ◌∷◌, Result, Ok, Err, chars, max, slice_range, unwrap_or}
 use Rattle.std.specs.Result.{result_ok}
 use Rattle.humantime.specs.Prelude.{Fault, SpanView, duration_answer}
 
@@ -12,9 +12,3 @@ nanos_alone text (Err e) = 0
 abbrev pub longest_of : List ℕ → List (Result SpanView Fault) → ℕ
 longest_of text [] = 0
 longest_of text (item ∷ items) = max (nanos_alone text item) (longest_of text items)
-
--- If one of the items is an error, it is the last one.
-abbrev pub EndsAtError : List (Result SpanView Fault) → Type 0
-EndsAtError [] = ⊤
-EndsAtError (Ok span ∷ items) = EndsAtError items
-EndsAtError (Err e ∷ items) = items ≡ []

@@ -1,30 +1,21 @@
 //! Callers that write values by `Display`, in lines and in columns of tables. Width and fill do not change the strings.
 
-ghost use Rattle.std.specs.Prelude.{◌≡◌, ◌++◌, ℕ, List, Some, Err, IsOk, IfOk, OnOk, codes, string_bytes};
+ghost use Rattle.std.specs.Prelude.{◌≡◌, ◌++◌, Err, IsOk, IfOk, OnOk, codes, string_bytes};
 ghost use Rattle.std.specs.Fmt.{DisplaysOnOk, DisplaysStyledOnOk, WritesInCalls, fmt_error};
-ghost use Rattle.humantime.specs.Prelude.{IsCanonicalText, IsPrintable, duration_text, fault_message, fault_of, printed_text, shortest_text, timestamp_message};
+ghost use Rattle.humantime.specs.Prelude.{IsPrintable, duration_text, fault_message, fault_of, printed_text, shortest_text, timestamp_message};
 
-use humantime::laws::printed_duration_reads;
 use humantime::{
-    Duration, DurationError, Rfc3339Timestamp, StdDuration, Timestamp, TimestampError,
-    format_duration,
+    Duration, DurationError, FormattedDuration, Rfc3339Timestamp, StdDuration, Timestamp,
+    TimestampError, format_duration,
 };
 use std::alloc::{AllocError, Global};
 use std::fmt::{self, Display, Write};
 
-/// Returns a duration as a `String`, by `Display`.
-pub fn duration_string(alloc: Global, duration: StdDuration) -> Result<String, AllocError>
-    ensures { IfOk result (λ s. IsCanonicalText duration (string_bytes s)) }
+/// Writes a line with the time that something took and its limit.
+pub fn write_limit<W: Write>(took: &FormattedDuration, limit: Duration, out: &mut W) -> fmt::Result
+    ensures { OnOk result (WritesInCalls W.write_str_gives out.old (duration_text took.now ++ (codes " of " ++ duration_text limit)) out.new) }
 {
-    printed_duration_reads(duration);
-    format!(in alloc; "{}", format_duration(duration))
-}
-
-/// Writes a line with a limit and the moment from which it applies.
-pub fn write_limit<W: Write>(limit: Duration, at: Timestamp, out: &mut W) -> fmt::Result
-    ensures { (from : List ℕ) → shortest_text at ≡ Some from → OnOk result (WritesInCalls W.write_str_gives out.old (duration_text limit ++ (codes " from " ++ from)) out.new) }
-{
-    write!(out, "{limit} from {at}")
+    write!(out, "{took} of {limit}")
 }
 
 /// The string of a row of a table, unless there is no memory for it.
@@ -35,13 +26,6 @@ pub fn limits_row(alloc: Global, took: StdDuration, limit: Duration) -> Row
     ensures { IfOk result (λ row. string_bytes row ≡ duration_text took ++ (codes " of " ++ duration_text limit)) }
 {
     format!(in alloc; "{:>80} of {limit:-<9}", format_duration(took))
-}
-
-/// Returns a row of a table: a start and an end.
-pub fn stamps_row(alloc: Global, start: Timestamp, end: &Rfc3339Timestamp) -> Row
-    ensures { (first : List ℕ) (last : List ℕ) → shortest_text start ≡ Some first → printed_text end.now ≡ Some last → IfOk result (λ row. string_bytes row ≡ first ++ (codes " to " ++ last)) }
-{
-    format!(in alloc; "{start:>40} to {end:.3}")
 }
 
 /// Returns a row of a table: the errors of a limit and of a start.

@@ -1,10 +1,10 @@
-//! Limits, sums and offsets of errors: callers that parse and print durations.
+//! Limits, times and offsets of errors: callers that parse and print durations.
 
-ghost use Rattle.std.specs.Prelude.{◌≡◌, ◌+◌, ◌*◌, ◌/◌, ◌<◌, ◌≤◌, ◌↔◌, ℕ, List, [], chars, drop, slice_range, true, IfSome, IfOk, IsSome, IsOk, IsOkAnd, IsErrAnd, IsTrue, SomeIff, Ok, Err};
+ghost use Rattle.std.specs.Prelude.{◌≡◌, ◌+◌, ◌*◌, ◌/◌, ◌<◌, ◌≤◌, ◌↔◌, ℕ, List, chars, true, IfSome, IfOk, IsSome, IsTrue, Ok};
 ghost use Rattle.std.specs.Result.{result_map_both};
-ghost use Rattle.humantime.specs.Prelude.{Accepted, IsCanonicalOf, IsCanonicalText, Fault, InvalidCharacter, NumberExpected, UnknownUnit, NumberOverflow, Empty, duration_answer, duration_end, result_view, text_result_view, fault_of, nanos_per_second};
+ghost use Rattle.humantime.specs.Prelude.{Accepted, IsCanonicalOf, IsCanonicalText, PointsInto, duration_answer, duration_end, result_view, text_result_view, fault_of, nanos_per_second};
 
-use humantime::{DurationError, StdDuration, canonical, format_duration, parse_duration};
+use humantime::{Duration, DurationError, StdDuration, canonical, format_duration, parse_duration};
 
 /// Returns the whole seconds of a time limit in a settings file, or the error of its string.
 pub fn limit_seconds(text: &str) -> Result<u64, DurationError<'_>>
@@ -34,28 +34,36 @@ fn seconds_up(duration: StdDuration) -> Option<u64>
     }
 }
 
-/// Returns the sum of a start and a length, `None` if it is too long, or the first error of the two strings.
-pub fn end_of<'a>(start: &'a str, len: &'a str) -> Result<Option<StdDuration>, DurationError<'a>>
-    ensures sum { (v : ℕ) (w : ℕ) → duration_answer (chars start.now) ≡ Ok v → duration_answer (chars len.now) ≡ Ok w → IsOkAnd result (λ end. SomeIff end (v + w < duration_end) (v + w)) }
-    ensures start_fault { (e : Fault) → duration_answer (chars start.now) ≡ Err e → IsErrAnd result (λ error. fault_of error ≡ e) }
-    ensures len_fault { (v : ℕ) (e : Fault) → duration_answer (chars start.now) ≡ Ok v → duration_answer (chars len.now) ≡ Err e → IsErrAnd result (λ error. fault_of error ≡ e) }
+/// Returns `true` if an error points into its string: a character begins at its offset, or its unit is the slice between its offsets.
+fn is_in(error: DurationError<'_>, text: &str) -> bool
+    requires { PointsInto text.now error }
+    ensures { result ≡ true }
 {
-    Ok(parse_duration(start)?.checked_add(parse_duration(len)?))
+    match error {
+        DurationError::InvalidCharacter(at) | DurationError::NumberExpected(at) => {
+            !text[at..].is_empty()
+        }
+        DurationError::UnknownUnit {
+            start,
+            end,
+            unit,
+            ..
+        } => &text[start..end] == unit,
+        _ => true,
+    }
 }
 
-/// Returns what to underline in a string that is not a valid duration: its unknown unit, or the rest from the error's offset on.
-pub fn underlined(text: &str) -> &str
-    ensures character { (at : ℕ) → duration_answer (chars text.now) ≡ Err (InvalidCharacter at) → result.now ≡ drop at text.now }
-    ensures number { (at : ℕ) → duration_answer (chars text.now) ≡ Err (NumberExpected at) → result.now ≡ drop at text.now }
-    ensures unit { (start : ℕ) (end : ℕ) (unit : List ℕ) (value : ℕ) → duration_answer (chars text.now) ≡ Err (UnknownUnit start end unit value) → (result.now ≡ unit) × (unit ≡ slice_range text.now start end) }
-    ensures overflow { duration_answer (chars text.now) ≡ Err NumberOverflow → result.now ≡ [] }
-    ensures empty { duration_answer (chars text.now) ≡ Err Empty → result.now ≡ [] }
-    ensures read { IsOk (duration_answer (chars text.now)) → result.now ≡ [] }
+/// Returns `true` if the errors of a string, if it has any, point into it, which they always do.
+pub fn points_into(text: &str) -> bool
+    ensures { result ≡ true }
 {
-    match parse_duration(text) {
-        Err(DurationError::InvalidCharacter(at) | DurationError::NumberExpected(at)) => &text[at..],
-        Err(DurationError::UnknownUnit { start, end, .. }) => &text[start..end],
-        _ => "",
+    match (
+        parse_duration(text),
+        Duration::from_str(text),
+        canonical(text, &mut [0; 64]),
+    ) {
+        (Err(a), Err(b), Err(c)) => is_in(a, text) && is_in(b, text) && is_in(c, text),
+        _ => true,
     }
 }
 

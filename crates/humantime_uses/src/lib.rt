@@ -10,7 +10,6 @@ pub mod calendar;
 pub mod counted_calendar;
 pub mod displays;
 pub mod durations;
-pub mod errors;
 pub mod laws;
 pub mod spans;
 pub mod std_limits;

@@ -44,20 +44,6 @@ pub fn next_parts<'a>(items: &mut SpanIter<'a>) -> Option<Result<Parts<'a>, Dura
     )))
 }
 
-/// Returns `true` if no item of a string follows an error, which none ever does.
-pub fn ends_at_error(text: &str) -> bool
-    ensures { result ≡ true }
-{
-    let mut has_ended = false;
-    for item in spans(text) {
-        if has_ended {
-            return false;
-        }
-        has_ended = item.is_err();
-    }
-    true
-}
-
 /// Returns two iterators over the items of a string, whose slices follow each other in the string.
 ///
 /// Up to where the spans stop, each character lies in exactly one slice (a number, a fraction or a unit), or in none and is whitespace or a

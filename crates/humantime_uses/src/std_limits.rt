@@ -37,13 +37,6 @@ pub fn balance(limit: StdDuration, used: StdDuration) -> (StdDuration, StdDurati
     (limit.saturating_sub(used), used.saturating_sub(limit))
 }
 
-/// Converts a duration to one of std and back.
-pub fn duration_through_std(duration: StdDuration) -> StdDuration
-    ensures { result ≡ duration }
-{
-    StdDuration::from_std(duration.to_std())
-}
-
 /// Converts a time to one of std and back, or returns `None` if it is before 1970.
 pub fn time_through_std(time: SystemTime) -> Option<SystemTime>
     ensures { SomeIff result (pos 0 ≤ℤ time) time }
