@@ -4,9 +4,9 @@ import re
 import shutil
 import subprocess
 import sys
-import tempfile
 from hashlib import sha256
 from pathlib import Path
+from tempfile import TemporaryDirectory
 
 ROOT = Path(__file__).resolve().parent.parent
 CRATES = ROOT / "crates"
@@ -31,11 +31,6 @@ def write(text, *path):
     path = Path(*path)
     path.parent.mkdir(parents=True, exist_ok=True)
     path.write_text(text, encoding="utf-8")
-
-
-def room(script):
-    """Creates a folder, which is removed after a `with` block."""
-    return tempfile.TemporaryDirectory(prefix=f"{script}-")
 
 
 def copied(to, crates):
@@ -75,9 +70,9 @@ def rt(top, crate, *words):
 
 
 def once(crates, attempt, *given):
-    """Makes an attempt with a copy of these crates, which returns how many tries it made, and the failures. Returns how many passed, and the
-    failures. If all passed on this machine with the same copy, tests, scripts, kit, and values that are given, it is not made again."""
-    with room(attempt.__name__) as top:
+    """Makes an attempt with a copy of these crates, which returns how many tries it made, and the failures. Returns how many passed, and
+    the failures. If all passed on this machine with the same copy, tests, scripts, kit, and values that are given, it is not made again."""
+    with TemporaryDirectory(prefix=f"{attempt.__name__}-") as top:
         tests = [path for name in crates for below in BELOW[name] for path in (CRATES / below / "tests").rglob("*")]
         paths = [*copied(top, crates).rglob("*"), *tests, *ROOT.glob("scripts/*.py"), Path(sys.argv[0])]
         all_read = sorted((path.name, path.read_bytes()) for path in {*paths} if path.is_file() and path.suffix != ".md")
