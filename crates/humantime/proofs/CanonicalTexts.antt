@@ -111,9 +111,8 @@ all_accepted [] d h sum short = rw (← sum) (accepted_from_outcome (chars (code
 all_accepted (c ∷ cs) d h sum short =
     let spans = spans_of (c ∷ cs) in
     let within = counts_within (c ∷ cs) h in
-    let room = small_have_room (additions spans) within.2 (rw sum short) in
-    let each = counts_spell (c ∷ cs) h in
-    SumOf spans (record { whitespace = []; body = _; whole = refl; only_whitespace = tt; each = each }, λ e. cc) (grind (arith, within, (room))) sum
+    SumOf spans (record { whitespace = []; body = _; whole = refl; only_whitespace = tt; each = counts_spell (c ∷ cs) h }, λ e. cc)
+    (grind (arith, within, (small_have_room (additions spans) within.2 (rw sum short)))) sum
 
 -- The canonical text of a duration is accepted with its value.
 pub canon_reads : (d : ℕ) → d / nanos_per_second ≤ u64_max → (text : List ℕ) → IsCanonicalText d text → Accepted (chars text) d
@@ -131,9 +130,7 @@ same_read text u v a b = let one = sym (outcome_accepted text u a) ∙ outcome_a
 pub texts_tell_apart : (a b : ℕ) → a / nanos_per_second ≤ u64_max → b / nanos_per_second ≤ u64_max
     → (s t : List ℕ) → IsCanonicalText a s → IsCanonicalText b t → ((s ≡ t) ↔ (a ≡ b))
 texts_tell_apart a b ha hb s t left right =
-    let first = outcome_accepted (chars s) a (canon_reads a ha s left) in
-    let second = outcome_accepted (chars t) b (canon_reads b hb t right) in
-    grind (arith, (canon_is_text a s left), (canon_is_text b t right), first, second)
+    grind (arith, (canon_is_text a s left), (canon_is_text b t right), (outcome_accepted (chars s) a (canon_reads a ha s left)), (outcome_accepted (chars t) b (canon_reads b hb t right)))
 
 -- The canonical text of an accepted text is accepted with the same value.
 canonical_read : (s t : List ℕ) (h : IsCanonicalOf s t) → Accepted (chars t) h.duration
@@ -144,8 +141,6 @@ keeps_its_value s v t accepted h = rw (same_read (chars s) v h.duration accepted
 
 pub keeps_its_text : (s t u : List ℕ) → IsCanonicalOf s t → (IsCanonicalOf t u ↔ (u ≡ t))
 keeps_its_text s t u h = (
-  (λ k.
-      let same = same_read (chars t) k.duration h.duration k.accepted (canonical_read s t h) in
-      grind (arith, same, (canon_is_text k.duration u k.canon), (canon_is_text h.duration t h.canon))),
+  (λ k. grind (arith, (same_read (chars t) k.duration h.duration k.accepted (canonical_read s t h)), (canon_is_text k.duration u k.canon), (canon_is_text h.duration t h.canon))),
   (λ same. record { duration = h.duration; accepted = canonical_read s t h; canon = rw same h.canon }),
 )

@@ -53,9 +53,8 @@ spells_each-whitespace body whitespace s (t ∷ ts) h only = (h.0 ++ whitespace,
 front-append : (a b : List ℕ) (ss ts : List SpelledSpan) → Reads a ss → SpellsAll b ts → Reads (a ++ b) (ss ++ ts)
 front-append a b [] ts h k = absurd (h.1 refl)
 front-append a b (s ∷ ss) ts h k =
-    let f = h.0 in
-    let each = spells_each-append (f.body ++ k.whitespace) k.body (s ∷ ss) ts (spells_each-whitespace f.body _ s ss f.each k.only_whitespace) k.each in
-    grind (arith, append_assoc, f.whole, k.whole, each)
+    let each = spells_each-append _ k.body (s ∷ ss) ts (spells_each-whitespace h.0.body k.whitespace s ss h.0.each k.only_whitespace) k.each in
+    grind (arith, append_assoc, h.0.whole, k.whole, each)
 
 -- The text is any whitespace followed by one or more spans with this value that keep all limits except for that of their sum.
 abbrev AreSpans : List ℕ → List SpelledSpan → ℕ → Type 0

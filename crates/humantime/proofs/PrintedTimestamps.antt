@@ -3,7 +3,7 @@ use Rattle.std.proofs.Common.{arith, ℕ, List, ◌≡◌, zero, suc, true, eqb,
 use Rattle.std.proofs.lemmas.Int.{ints}
 use Rattle.std.proofs.lemmas.Grind.{common_steps}
 use Rattle.std.specs.Prelude.{ℤ, codes, slice_set, Some, None, ◌==◌, if◌then◌else◌, min, Option, option_map, pos, ◌↔◌, negsuc, nat_abs, IsAscii, IsSome, IfSome}
-use Rattle.std.proofs.Math.Nat.{suc-add, pow-suc, one-le-pow, mod-mod_of_dvd, dvd-mul_left, mod-le}
+use Rattle.std.proofs.Math.Nat.{suc-add, pow-suc, one-le-pow, mod-mod_of_dvd, dvd-mul_left, mod-le, mul-le-mul_right}
 use Rattle.std.proofs.lemmas.Bool.{agree_below_at, eqb-true, lt-ltb}
 use Rattle.std.proofs.Math.Arith.{mod-mul}
 use Rattle.std.proofs.lemmas.Nat.{pow-add}
@@ -80,15 +80,12 @@ cut_nanos k t small =
 
 -- ==== Printed texts are ordered like their moments.
 
-below : (w m n x y : ℕ) → x < w → m < n → m * w + x < n * w + y
-below w m n x y h less = grind arith
-
 abbrev then_cmp : ℕ → ℕ → Ordering → Ordering
 then_cmp m n o = ordering_then (nat_cmp m n) o
 
 -- A number followed by one below `w`, as one number.
 pair_cmp : (w m n x y : ℕ) → x < w → y < w → then_cmp m n (nat_cmp x y) ≡ nat_cmp (m * w + x) (n * w + y)
-pair_cmp w m n x y h k = grind (arith, nat_tests, below w m n x y h, below w n m y x k)
+pair_cmp w m n x y h k = grind (arith, nat_tests, (mul-le-mul_right {m = suc m} {n = n} w), (mul-le-mul_right {m = suc n} {n = m} w))
 
 two_digits_cmp : (m n : ℕ) (o : Ordering) → then_cmp (48 + m / 10) (48 + n / 10) (then_cmp (48 + m % 10) (48 + n % 10) o) ≡ then_cmp m n o
 two_digits_cmp m n o = grind (arith, common_steps)
@@ -157,8 +154,8 @@ stamps_in_order a b k x y p q =
     let clock = day_cmp p.fields.date q.fields.date _ p.weak.date q.weak.date ∙ clock_cmp _ _ _ _ _ _ _ _ _ _
     p.weak.hour p.weak.minute p.second (nanos_bound _ (digits_from_test _ p.weak.fraction))
     q.weak.hour q.weak.minute q.second (nanos_bound _ (digits_from_test _ q.weak.fraction)) in
-    let moments = pos_cmp (moment_of p.fields) (moment_of q.fields) ∙ (λ i. int_cmp (p.moment i) (q.moment i)) in
-    (λ i. slice_cmp nat_cmp (shown_marked a k x p i) (shown_marked b k y q i)) ∙ (marked_cmp p.fields q.fields ∙ (rw fraction clock ∙ moments))
+    (λ i. slice_cmp nat_cmp (shown_marked a k x p i) (shown_marked b k y q i)) ∙ marked_cmp p.fields q.fields ∙ rw fraction clock
+    ∙ pos_cmp (moment_of p.fields) (moment_of q.fields) ∙ (λ i. int_cmp (p.moment i) (q.moment i))
 
 -- Therefore a moment has only one printed text.
 pub one_text : (t : ℤ) (k : ℕ) (x y : List ℕ) → IsPrinted t k x → IsPrinted t k y → x ≡ y
@@ -214,13 +211,10 @@ text_displayed t k text small = (
 )
 
 -- The result of printing is the text that is computed, if any.
-no_text : (x : MomentToPrint) (text : Option (List ℕ)) → printed_text x ≡ text → ¬ (IsPrintable x.moment) → text ≡ None
-no_text x None computed refused = refl
-no_text x (Some text) computed refused = absurd (refused ((text_displayed x.moment x.places text x.few).0 computed).0)
-
 pub text_answered : (x : MomentToPrint) (text : Option (List ℕ)) → (IsSome text ↔ IsPrintable x.moment) → IfSome text (IsPrinted x.moment x.places) → text ≡ printed_text x
+unfolding moment_text
 text_answered x (Some text) within is = sym ((text_displayed x.moment x.places text x.few).1 (within.0 refl, is))
-text_answered x None within is = sym (no_text x (printed_text x) refl (λ h. let some = within.1 h in cc))
+text_answered x None within is = grind (arith, ints, within)
 
 -- A printed text parses to the moment, rounded down.
 pub printed_reads : (t : ℤ) (k : ℕ) (text : List ℕ) → IsPrinted t k text → ReadsAs text (cut t k)
