@@ -25,5 +25,5 @@ pub mod TimestampOutcomes
 pub mod PrintedTimestamps
 -- Values and buffers.
 pub mod Moments
-pub mod Buffers
 pub mod StandardFacts
+pub mod Buffers

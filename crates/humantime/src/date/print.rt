@@ -296,8 +296,7 @@ impl fmt::Display for Rfc3339Timestamp {
 /// This is a separate function so that the handwritten proof of [`Rfc3339Timestamp::text`] can use its contract.
 #[inline(always)]
 fn text_if_any(buf: &[u8; 30], len: Option<usize>) -> Option<&str>
-    requires fits { IfSome len (λ n. n ≤ 30) }
-    requires utf8 { IfSome len (λ n. IsUtf8 (take n buf.now)) }
+    requires prefix { IfSome len (λ n. (n ≤ 30) × IsUtf8 (take n buf.now)) }
     ensures { option_map (λ t. t.now) result ≡ option_map (λ n. take n buf.now) len }
 {
     Some(str_prefix(buf, len?))

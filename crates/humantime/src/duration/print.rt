@@ -300,7 +300,7 @@ pub fn canonical<'a, 'b>(s: &'a str, buf: &'b mut [u8; 64]) -> Result<&'b str, D
     ensures* unchanged { sem 𝓛 (KeptAtErr 64 buf.entry result) }
 {
     let len = write_canonical(s, buf);
-    text_or_error(buf, len)
+    text_or_error(len, buf)
 }
 
 /// Returns the string in the first `len` bytes of the buffer, or the error if `len` is one.
@@ -308,11 +308,10 @@ pub fn canonical<'a, 'b>(s: &'a str, buf: &'b mut [u8; 64]) -> Result<&'b str, D
 /// This is a separate function so that the handwritten proof of [`canonical`] can use its contract.
 #[inline(always)]
 fn text_or_error<'a, 'b>(
-    buf: &'b [u8; 64],
     len: Result<usize, DurationError<'a>>,
+    buf: &'b [u8; 64],
 ) -> Result<&'b str, DurationError<'a>>
-    requires fits { IfOk len (λ n. n ≤ 64) }
-    requires utf8 { IfOk len (λ n. IsUtf8 (take n buf.now)) }
+    requires prefix { IfOk len (λ n. (n ≤ 64) × IsUtf8 (take n buf.now)) }
     ensures text { IfOk len.entry (λ n. text_result_view result ≡ Ok (take n buf.now)) }
     ensures error { IfErr len.entry (λ e. result ≡ Err e) }
 {
@@ -325,8 +324,7 @@ fn text_or_error<'a, 'b>(
 #[tactic(auto, unfolding(crate::specs::DurationResults::canonical_answer))]
 fn write_canonical<'a>(s: &'a str, buf: &mut [u8; 64]) -> Result<usize, DurationError<'a>>
     ensures unchanged { OnErr result (buf.new ≡ buf.old) }
-    ensures fits { IfOk result (λ len. len ≤ 64) }
-    ensures utf8 { IfOk result (λ len. IsUtf8 (take len buf.new)) }
+    ensures prefix { IfOk result (λ len. (len ≤ 64) × IsUtf8 (take len buf.new)) }
     ensures answer { result_map_both (λ len. take len buf.new) fault_of result ≡ canonical_answer (chars s.now) }
     ensures place { IfErr result (PointsInto s.now) }
 {
