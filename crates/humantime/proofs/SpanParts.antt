@@ -1,6 +1,6 @@
 -- The parts of a span as they are read: number, fraction, word and end.
 use Rattle.std.proofs.lemmas.Grind.{common_steps}
-use Rattle.std.proofs.Common.{◌≡◌, ◌≤◌, ◌<◌, ◌+◌, ◌-◌, ◌*◌, ◌%◌, ℕ, List, [], ◌∷◌, ◌++◌, arith, true, false, chars, drop, get_or, length, IsUtf8, IsCharBoundary, ◌≢◌, ◌^◌, sym, ap, ◌∙◌, length-append}
+use Rattle.std.proofs.Common.{◌≡◌, ◌≤◌, ◌<◌, ◌+◌, ◌-◌, ◌*◌, ℕ, List, [], ◌∷◌, ◌++◌, arith, true, false, chars, drop, get_or, length, IsUtf8, IsCharBoundary, ◌≢◌, ◌^◌, sym, ap, ◌∙◌, length-append}
 use Rattle.std.specs.Char.{digit_value, is_ascii_digit}
 use Rattle.std.specs.Str.Parse.{digits_value_after}
 use Rattle.std.proofs.lemmas.Str.{digit_value_digit, encodes-chars, IsCharBoundary-start}
@@ -36,10 +36,6 @@ pub stops_here : (text bytes : List ℕ) (at : ℕ) → IsUtf8 text → bytes �
     → ¬ (0 < whitespace_len (chars (drop at text))) → begins is_numeric (chars (drop at text)) ≡ false
 stops_here text bytes at u same some place d w = grind (arith, common_steps, nat_tests, digit_at, no_whitespace)
 
--- A byte is not a digit if subtracting 48 from it, in 64 bits, leaves more than nine.
-pub other_left : (c : ℕ) → c < 256 → 9 < (c + 18446744073709551568) % 18446744073709551616 → is_ascii_digit c ≡ false
-other_left c fits many = let other : ¬ ((48 ≤ c) × (c ≤ 57)) = λ d. omega (arith, fits, many, d.0, d.1) in grind (arith, nat_tests)
-
 -- The range of the bytes of digits.
 pub digit_range : (c : ℕ) → is_digit c ≡ true → (48 ≤ c) × (c ≤ 57)
 unfolding is_digit
@@ -53,11 +49,6 @@ first_digit text bytes u same d =
 
 pub value_more : (ds : List ℕ) (c : ℕ) → is_digit c ≡ true → decimal_value (ds ++ c ∷ []) ≡ decimal_value ds * 10 + (c - 48)
 value_more ds c d = grind (arith, digits_value-append, digit_value_digit, (digit_range c d))
-
--- Subtracting 48 from a byte, in 64 bits, converts a digit.
-pub digit_left : (c : ℕ) → c < 256 → (c + 18446744073709551568) % 18446744073709551616 ≤ 9
-    → (is_ascii_digit c ≡ true) × (digit_value c ≡ (c + 18446744073709551568) % 18446744073709551616)
-digit_left c fits few = grind (arith, nat_tests, digit_value_digit)
 
 -- Further digits do not make a value smaller.
 pub value_grows : (n : ℕ) (ds : List ℕ) → n ≤ digits_value_after 10 n ds

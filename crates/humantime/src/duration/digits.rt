@@ -41,13 +41,14 @@ pub(crate) struct Fraction {
     pub len: usize,
 }
 
-/// Returns `value * 10 + digit`, or `None` on overflow.
+/// Returns `value` followed by the ASCII digit `c`, or `None` on overflow.
 #[inline(always)]
-pub(crate) fn push_digit(value: u64, digit: u64) -> Option<u64>
-    requires { digit ≤ 9 }
-    ensures { SomeIff result (value * 10 + digit ≤ u64_max) (value * 10 + digit) }
+#[tactic(auto, using(crate::proofs::SpanParts::digit_range))]
+pub(crate) fn push_digit(value: u64, c: u8) -> Option<u64>
+    requires { is_digit c ≡ true }
+    ensures { SomeIff result (value * 10 + (c - 48) ≤ u64_max) (value * 10 + (c - 48)) }
 {
-    value.checked_mul(10)?.checked_add(digit)
+    value.checked_mul(10)?.checked_add((c - b'0') as u64)
 }
 
 /// Returns 10 to the power of `exponent`, which is at most 19.

@@ -17,9 +17,6 @@ use crate::duration::error::DurationError;
 use crate::duration::span::{Number, Span};
 use crate::unit::scale_of;
 
-/// The greatest number whose product with 10 fits in a `u64`. A digit can be appended to any smaller number.
-const TENTH_OF_MAX: u64 = u64::MAX / 10;
-
 /// Returns `true` if the two bytes encode `µ` (U+00B5) or `μ` (U+03BC), the only letters outside ASCII in the words of units.
 #[inline(always)]
 fn is_mu(first: u8, second: u8) -> bool
@@ -114,7 +111,7 @@ pub(crate) fn begins_with_digit(text: &str) -> bool
 /// Reads the digits at the start of the string, with the whitespace between and after them. Returns the number and the rest, or `None` if its
 /// value does not fit in a `u64`. The string must begin with a digit.
 #[inline(always)]
-#[tactic(auto, using(crate::proofs::Offsets::rests, crate::proofs::SpanParts::first_digit))]
+#[tactic(auto, using(crate::proofs::Offsets::rests, crate::proofs::SpanParts::first_digit, crate::proofs::Characters::digit_is))]
 pub(crate) fn read_number(text: &str) -> Option<(Number<'_>, &str)>
     requires { begins is_digit (chars text.now) ≡ true }
     ensures read { read_view number_view result ≡ reader.read_number (chars text.now) }
@@ -124,16 +121,9 @@ pub(crate) fn read_number(text: &str) -> Option<(Number<'_>, &str)>
     let mut value = (bytes[0] - b'0') as u64;
     let mut at = 1;
     while at < bytes.len() {
-        // It is at most 9 exactly if the byte is a digit, so one subtraction tests and converts it.
-        let digit = (bytes[at] as u64).wrapping_sub(b'0' as u64);
-        if digit <= 9 {
+        if bytes[at].is_ascii_digit() {
+            value = push_digit(value, bytes[at])?;
             at += 1;
-            // Only the last digits of the longest numbers are tested for overflow.
-            value = if value >= TENTH_OF_MAX {
-                push_digit(value, digit)?
-            } else {
-                value * 10 + digit
-            };
         } else if let Some(next) = skip_whitespace_char(text, at) {
             at = next;
         } else {

@@ -4,37 +4,33 @@ use Rattle.std.proofs.lemmas.Str.{digit_value_digit}
 use Rattle.std.proofs.Common.{◌≡◌, chars, drop, false, arith}
 use Rattle.humantime.specs.Characters.{begins, is_numeric}
 use Rattle.humantime.proofs.Characters.{digit_is}
-use Rattle.humantime.proofs.SpanParts.{other_left, first_digit, digit_left, digit_range, read_digit, read_whitespace, stops_here, value_grows}
+use Rattle.humantime.proofs.SpanParts.{first_digit, digit_range, read_digit, read_whitespace, stops_here, value_grows}
 use Rattle.humantime.proofs.Offsets.{front_is, no_chars_at, starts}
 use Rattle.humantime.proofs.duration.scan.read_number.Goals as goal
-use Rattle.humantime.proofs.duration.scan.read_number.Goals.{else-loop-at-test, then-loop-at-test+else-digit-le9+in_default}
+use Rattle.humantime.proofs.duration.scan.read_number.Goals.{else-loop-at-test, then-loop-at-test+else-is_ascii_digit+in_default}
 
 pub loop-at-init : goal.loop-at-init
-loop-at-init c = grind (arith, nat_tests, starts, first_digit, (read_digit c.args.text.now 0 c.utf8.text), digit_value_digit, digit_range, digit_is, c.type_inv.bytes)
+loop-at-init c = grind (arith, nat_tests, starts, first_digit, (read_digit c.args.text.now 0 c.utf8.text), digit_value_digit, digit_range, digit_is)
 
-pub loop-at-preserved-else-value-ge-TENTH_OF_MAX : goal.loop-at-preserved-else-value-ge-TENTH_OF_MAX
-loop-at-preserved-else-value-ge-TENTH_OF_MAX c =
-    grind (arith, (read_digit c.args.text.now c.loop-at.at c.utf8.text), (digit_left _ (c.loop-at.invariant.bytes c.loop-at.at) c.if-digit-le9.true))
-
-pub loop-at-preserved-in_ok-value : goal.loop-at-preserved-in_ok-value
-loop-at-preserved-in_ok-value c =
-    grind (arith, (read_digit c.args.text.now c.loop-at.at c.utf8.text), (digit_left _ (c.loop-at.invariant.bytes c.loop-at.at) c.if-digit-le9.true))
+pub loop-at-preserved-then-is_ascii_digit : goal.loop-at-preserved-then-is_ascii_digit
+loop-at-preserved-then-is_ascii_digit c =
+    grind (arith, (read_digit c.args.text.now c.loop-at.at c.utf8.text), digit_value_digit, digit_is, digit_range)
 
 pub loop-at-preserved : goal.loop-at-preserved
 loop-at-preserved c = grind (arith, (read_whitespace c.args.text.now c.loop-at.at c.in-Some.next c.utf8.text))
 
 pub returns-in_err-value-clause-read : goal.returns-in_err-value-clause-read
 returns-in_err-value-clause-read c =
-    grind (arith, nat_tests, (read_digit c.args.text.now c.loop-at.at c.utf8.text), (digit_left _ (c.loop-at.invariant.bytes c.loop-at.at) c.if-digit-le9.true), value_grows)
+    grind (arith, nat_tests, (read_digit c.args.text.now c.loop-at.at c.utf8.text), digit_value_digit, digit_is, digit_range, value_grows)
 
 pub invariant_of-number-clause-read : goal.invariant_of-number-clause-read
 invariant_of-number-clause-read c =
-    let ended : begins is_numeric (chars (drop c.loop-at.at c.args.text.now)) ≡ false = grind (arith, else-loop-at-test, then-loop-at-test+else-digit-le9+in_default, no_chars_at, other_left, stops_here) in
+    let ended : begins is_numeric (chars (drop c.loop-at.at c.args.text.now)) ≡ false = grind (arith, else-loop-at-test, then-loop-at-test+else-is_ascii_digit+in_default, no_chars_at, stops_here) in
     let front = front_is is_numeric c.args.text.now c.loop-at.at c.utf8.text c.loop-at.invariant.place in
     grind (arith, common_steps, nat_tests, ended, front, c.loop-at.invariant)
 
 pub returns-clause-read : goal.returns-clause-read
 returns-clause-read c =
-    let ended : begins is_numeric (chars (drop c.loop-at.at c.args.text.now)) ≡ false = grind (arith, else-loop-at-test, then-loop-at-test+else-digit-le9+in_default, no_chars_at, other_left, stops_here) in
+    let ended : begins is_numeric (chars (drop c.loop-at.at c.args.text.now)) ≡ false = grind (arith, else-loop-at-test, then-loop-at-test+else-is_ascii_digit+in_default, no_chars_at, stops_here) in
     let front = front_is is_numeric c.args.text.now c.loop-at.at c.utf8.text c.loop-at.invariant.place in
     grind (arith, common_steps, nat_tests, ended, front, c.loop-at.invariant)

@@ -1,4 +1,4 @@
-use Rattle.std.proofs.Common.{◌≡◌, ◌≤◌, ◌<◌, ◌-◌, ℕ, chars, drop, get_or, length, IsCharBoundary}
+use Rattle.std.proofs.Common.{◌≡◌, ◌≤◌, ◌-◌, chars, drop, length, IsCharBoundary}
 use Rattle.std.specs.Str.Parse.{digits_value_after}
 use Rattle.humantime.specs.Characters.{decimal_value, u64_max}
 use Rattle.humantime.specs.DurationErrors.{number_of, after_number}
@@ -10,7 +10,6 @@ invariant-loop-at l = record {
   value : digits_value_after 10 l.value (number_of (chars (drop l.at l.text))) ≡ decimal_value (number_of (chars l.text));
   after : after_number (chars (drop l.at l.text)) ≡ after_number (chars l.text);
   fits : l.value ≤ u64_max;
-  bytes : (k : ℕ) → get_or l.bytes k 0 < 256;
 }
 
 abbrev pub decreases-loop-at : goal.decreases-loop-at
