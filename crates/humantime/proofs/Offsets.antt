@@ -11,7 +11,7 @@ use Rattle.humantime.specs.DurationErrors.{IsCharStartIn, IsRangeIn, IsPartOf, m
 use Rattle.humantime.specs.Characters.{begins, drop_while, take_while, is_letter, is_whitespace, whitespace_chars, is_digit, byte_length, offset_of}
 use Rattle.humantime.specs.StepsOfCalls.{after_space}
 use Rattle.humantime.specs.StepsOfParts.{whitespace_len, IsTail}
-use Rattle.humantime.proofs.Characters.{letter_not_whitespace, whitespace_is_numeric, take_while-drop_while, low_whitespace, no_whitespace_between}
+use Rattle.humantime.proofs.Characters.{digit_not_whitespace, letter_not_whitespace, whitespace_is_numeric, take_while-drop_while, low_whitespace, no_whitespace_between}
 
 -- ==== Offsets in a text, and the characters at them.
 
@@ -66,6 +66,10 @@ whitespace_over text at next u here some n = let c = char_at text at u here in g
 
 pub no_whitespace : (cs : List ℕ) → ¬ (0 < whitespace_len cs) → begins is_whitespace cs ≡ false
 no_whitespace cs none = grind (arith, len_utf8_bounds)
+
+-- A text that begins with a digit has no leading whitespace.
+pub digit_stays : (cs : List ℕ) → begins is_digit cs ≡ true → cs ≡ drop_while is_whitespace cs
+digit_stays cs d = grind (arith, digit_not_whitespace)
 
 -- ---- letters
 
@@ -170,7 +174,7 @@ no_chars_at text at end = no_bytes (drop at text) (omega (arith, length-drop at 
 pub ruleset rests = (slice_tail, whole_tail, no_bytes, some_chars, no_chars_at, IsCharBoundary-start)
 
 -- The first character of a text.
-pub ruleset first = (rests, char_at, digit_at, cases_lt, ne_eqb, common_steps, nat_tests)
+pub ruleset first = (rests, char_at, digit_at, digit_stays, cases_lt, ne_eqb, common_steps, nat_tests)
 
 -- Whitespace at an offset.
 pub ruleset whitespace_at = (ascii_at, no_whitespace_at_mu, low_whitespace, no_whitespace_between, common_steps, nat_tests)

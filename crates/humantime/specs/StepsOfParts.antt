@@ -1,10 +1,10 @@
 -- Steps of the parser of durations: whitespace, digits, and what a span keeps of its text.
-use Rattle.std.specs.Prelude.{◌≡◌, ℕ, List, length, Option, option_map, chars, bytes_eq, ltb, not, filter, ◌≤◌, ◌<◌, ◌^◌, ◌-◌, ◌++◌, [], ◌∷◌, IfSome, IfNone, SomeIff, ◌+◌, drop, if◌then◌else◌, IsUtf8, IsCharBoundary}
+use Rattle.std.specs.Prelude.{◌≡◌, ℕ, List, length, Option, option_map, chars, bytes_eq, ltb, not, filter, ◌≤◌, ◌<◌, ◌^◌, ◌-◌, ◌++◌, [], ◌∷◌, IfSome, IfNone, SomeIff, ◌+◌, drop, if◌then◌else◌, IsUtf8}
 use Rattle.std.specs.Borrow.{Bor}
 use Rattle.std.specs.Map.{lookup}
 use Rattle.std.specs.Char.{len_utf8}
 use Rattle.humantime.specs.declared.duration.digits.Fraction.{Fraction}
-use Rattle.humantime.specs.Characters.{decimal_value, digits, without_trailing_zeros, drop_while, is_whitespace, max_fraction_digits}
+use Rattle.humantime.specs.Characters.{decimal_value, digits, without_trailing_zeros, is_whitespace, max_fraction_digits}
 use Rattle.humantime.specs.Durations.{Quantity, Nanos, Seconds, Scale, words}
 
 -- ==== The digits and spans that the `Fraction` and `Span` of the code represent.
@@ -74,9 +74,3 @@ AppendsIfSome f c result = (ds : List ℕ) → HasDigits f ds → IfSome result 
 -- If there is no result, the digit `c` makes more than 19 digits before the trailing zeros, whatever digits follow.
 abbrev pub IsFullIfNone : Fraction → ℕ → Option Fraction → Type 0
 IsFullIfNone f c result = (ds : List ℕ) → HasDigits f ds → IfNone result ((es : List ℕ) → max_fraction_digits < length (without_trailing_zeros (ds ++ c ∷ es)))
-
--- There is only whitespace between the two positions.
-pub record SkipsWhitespace (text : List ℕ) (from to : ℕ) : Type 0 where
-  pub order : from ≤ to
-  pub place : IsCharBoundary text to
-  pub same : drop_while is_whitespace (chars (drop to text)) ≡ drop_while is_whitespace (chars (drop from text))

@@ -6,8 +6,5 @@ use Rattle.humantime.proofs.duration.scan.skip_whitespace.Goals.{else-loop-at-te
 pub loop-at-preserved : goal.loop-at-preserved
 loop-at-preserved c = grind (arith, (whitespace_over c.args.text.now c.loop-at.at c.in-Some.next c.utf8.text))
 
-pub skip_spaces-at-requires : goal.skip_spaces-at-requires
-skip_spaces-at-requires c = (whitespace_over _ _ _ c.utf8.text (grind arith, c.loop-at.invariant.place) c.in-Some.ensures.0 c.in-Some.ensures.1).2.place
-
 pub returns-clause-read : goal.returns-clause-read
 returns-clause-read c = grind (arith, else-loop-at-test, no_chars_at, then-loop-at-test+in-None-1, no_whitespace)
