@@ -39,11 +39,12 @@ pub(crate) struct Number<'a> {
 /// ```
 #[derive(Clone, Copy, Debug)]
 pub struct Span<'a> {
-    pub(crate) number: Number<'a>,
     pub(crate) unit: &'a str,
     pub(crate) scale: &'static Scale,
     pub(crate) start: usize,
     pub(crate) end: usize,
+    // Last, since the tag of its fraction would lie over the unit of an error in a `Result`, which LLVM then returns in four parts.
+    pub(crate) number: Number<'a>,
     ghost read: { scale_of_word (chars unit.now) ≡ Some scale.now },
 }
 
