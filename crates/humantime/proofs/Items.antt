@@ -17,7 +17,7 @@ use Rattle.humantime.specs.Items.{SpanView, AreSpanViews, items_of, AreItems, Is
 use Rattle.humantime.specs.StepsOfCalls.{after_space, read_span}
 use Rattle.humantime.specs.Durations.{SpelledSpan, HasOnly}
 use Rattle.humantime.specs.Laws.{IsTiled, is_gap, slices_of}
-use Rattle.humantime.proofs.TextWalks.{items_found_at, Steps, by_walk, walk-go, walk-stop}
+use Rattle.humantime.proofs.TextWalks.{items_found_at, Steps, by_walk, walk-go}
 use Rattle.humantime.proofs.Outcomes.{items_walked, duration_answer-items}
 use Rattle.humantime.proofs.Spellings.{is_fine, next_of, each-append}
 use Rattle.humantime.proofs.Slices.{one_view_each, is_span_view, spelled_at, next_bytes}
@@ -40,10 +40,7 @@ pub sum_answers : (bs : List ℕ) → IsUtf8 bs → bs ≢ bare_zero → sum_spa
 sum_answers bs u n = sum_views_outcome (chars bs) (λ e. n (grind (arith, (encodes-chars bs u), encode_ascii)))
 
 -- Each span of a walk has its view, up to the rest that the walk leaves.
-abbrev Lends : List ℕ → List ℕ → Walk → Type 0
-Lends text rest w = AreSpanViews text rest (map span_of w.starts) (map (view_at text) w.starts) w.rest
-
-lends : (text : List ℕ) → Steps text (Lends text)
+lends : (text : List ℕ) → Steps text (λ rest w. AreSpanViews text rest (map span_of w.starts) (map (view_at text) w.starts) w.rest)
 lends text = grind (arith, next_of, is_span_view, is_fine)
 
 pub are_items : (text : List ℕ) → AreItems text (item_views text)
@@ -56,7 +53,7 @@ are_items text =
       slices = map (view_at text) (walk_of text).starts;
       items = i.0;
       are = refl;
-      each = rw i.1 (by_walk text (Lends text) (lends text) (drop_while is_whitespace text));
+      each = rw i.1 (by_walk text _ (lends text) (drop_while is_whitespace text));
     }
 
 pub one_span_view : (text : List ℕ) (others : List (Result SpanView Fault)) → AreItems text others → others ≡ item_views text
@@ -76,12 +73,12 @@ after_space_bytes : (cs : List ℕ) → byte_length (after_space cs) ≤ byte_le
 after_space_bytes cs = grind (arith, common_steps, length-append)
 
 pub step_ended : (first : Bool) (text : List ℕ) → left_at first text [] ≡ (if first then Err Empty ∷ [] else [])
-unfolding left_at walk
+unfolding left_at walk fault_at
 step_ended first text = grind arith
 
 pub step_stopped : (first : Bool) (text rest : List ℕ) (f : Fault) → rest ≢ [] → Err f ≡ read_span text rest → left_at first text rest ≡ Err f ∷ []
-unfolding left_at
-step_stopped first text rest f some e = grind (arith, common_steps, (walk-stop text rest f))
+unfolding left_at walk
+step_stopped first text rest f some e = grind (arith, common_steps)
 
 -- A span that was read has no fault.
 fine : (text rest next : List ℕ) (x : SpanView) → Ok (x, next) ≡ read_span text rest → (fault_at text rest ≡ None) × (x ≡ view_at text rest) × (next ≡ after_space (after_word rest))
@@ -91,12 +88,9 @@ pub step_shorter : (text rest next : List ℕ) (x : SpanView) → IsUtf8 rest �
 step_shorter text rest next x u v e =
     grind (arith, (encodes-chars rest u), (encodes-chars next v), (is_fine text (chars rest)), (fine text (chars rest) (chars next) x e), after_space_bytes, next_bytes)
 
-pub left-go : (first : Bool) (text rest : List ℕ) → fault_at text rest ≡ None → left_at first text rest ≡ Ok (view_at text rest) ∷ left_at false text (next_of rest)
-unfolding left_at
-left-go first text rest h = grind (arith, common_steps, (walk-go text rest h))
-
 pub step_goes : (first : Bool) (text rest next : List ℕ) (x : SpanView) → Ok (x, next) ≡ read_span text rest → left_at first text rest ≡ Ok x ∷ left_at false text (drop_while is_whitespace next)
-step_goes first text rest next x e = grind (arith, common_steps, (fine text rest next x e), (left-go first text rest))
+unfolding left_at
+step_goes first text rest next x e = grind (arith, common_steps, (fine text rest next x e), (walk-go text rest))
 
 -- ==== The slices of the items of a text tile it up to where the spans stop.
 

@@ -1,6 +1,6 @@
 -- The walk over a text finds the one list of spans that the text consists of, and its first error.
 use Rattle.std.proofs.lemmas.List.{length-map}
-use Rattle.std.proofs.Common.{◌==◌, ◌≡◌, ◌≢◌, ℕ, zero, suc, ◌≤◌, false, List, [], ◌∷◌, length, Some, None, refl, arith, ◌⊎◌, true, ◌++◌, map, Option, inl, append-nil, sym, ap, length-append, inr, append_assoc}
+use Rattle.std.proofs.Common.{◌==◌, ◌≡◌, ◌≢◌, ℕ, zero, suc, ◌<◌, ◌≤◌, false, List, [], ◌∷◌, length, Some, None, refl, arith, ◌⊎◌, true, ◌++◌, map, Option, inl, append-nil, sym, ap, length-append, inr, append_assoc}
 use Rattle.std.proofs.lemmas.Bool.Decides.{nat_tests}
 use Rattle.std.proofs.lemmas.Grind.{common_steps}
 use Rattle.std.specs.List.{AllByRecursion}
@@ -20,38 +20,24 @@ pub record Steps (text : List ℕ) (P : List ℕ → Walk → Type 0) : Type 0 w
   pub stop : (rest : List ℕ) (e : Fault) → fault_at text rest ≡ Some e → P rest (record { starts = []; rest = rest })
   pub go : (rest : List ℕ) (w : Walk) → fault_at text rest ≡ None → P (next_of rest) w → P rest (record { starts = rest ∷ w.starts; rest = w.rest })
 
--- No span begins at the end of the text.
-no_span_at_end : (text : List ℕ) → fault_at text [] ≡ Some (NumberExpected (offset_of text []))
-unfolding fault_at
-no_span_at_end text = refl
-
-by_count : (n : ℕ) (text : List ℕ) (P : List ℕ → Walk → Type 0) → Steps text P → (rest : List ℕ) → length rest ≤ n → P rest (walk n text rest)
+by_count : (n : ℕ) (text : List ℕ) (P : List ℕ → Walk → Type 0) → Steps text P → (rest : List ℕ) → length rest < n → P rest (walk n text rest)
 unfolding walk
-by_count n text P s [] h = s.stop [] _ (no_span_at_end text)
-by_count zero text P s (c ∷ cs) h = absurd (omega arith)
-by_count (suc n) text P s (c ∷ cs) h =
-    let rest = c ∷ cs in
+by_count zero text P s rest h = absurd (omega arith)
+by_count (suc n) text P s rest h =
     grind (arith, (s.stop rest), (s.go rest), (is_fine text rest), (next_smaller rest), (by_count n text P s (next_of rest)))
 
 pub by_walk : (text : List ℕ) (P : List ℕ → Walk → Type 0) → Steps text P → (rest : List ℕ) → P rest (walk_from text rest)
-by_walk text P s rest = by_count (length rest) text P s rest (omega arith)
+by_walk text P s rest = by_count (suc (length rest)) text P s rest (omega arith)
 
--- As many steps as the rest has characters are enough.
-enough : (n m : ℕ) (text rest : List ℕ) → length rest ≤ n → length rest ≤ m → walk n text rest ≡ walk m text rest
+-- As many steps as the rest has characters, and one more, are enough.
+enough : (n m : ℕ) (text rest : List ℕ) → length rest < n → length rest < m → walk n text rest ≡ walk m text rest
 unfolding walk
-enough (suc n) (suc m) text (c ∷ cs) h k =
-    grind (arith, (is_fine text (c ∷ cs)), (next_smaller (c ∷ cs)), (enough n m text (next_of (c ∷ cs))))
-enough n m text rest h k = grind arith
-
-pub walk-stop : (text rest : List ℕ) (e : Fault) → fault_at text rest ≡ Some e → walk_from text rest ≡ record { starts = []; rest = rest }
-unfolding walk
-walk-stop text [] e h = refl
-walk-stop text (c ∷ cs) e h = grind arith
+enough (suc n) (suc m) text rest h k = grind (arith, (is_fine text rest), (next_smaller rest), (enough n m text (next_of rest)))
+enough n m text rest h k = absurd (omega arith)
 
 pub walk-go : (text rest : List ℕ) → fault_at text rest ≡ None → walk_from text rest ≡ record { starts = rest ∷ (walk_from text (next_of rest)).starts; rest = (walk_from text (next_of rest)).rest }
 unfolding walk
-walk-go text [] h = grind (arith, no_span_at_end)
-walk-go text (c ∷ cs) h = grind (arith, enough, (is_fine text (c ∷ cs)), (next_smaller (c ∷ cs)))
+walk-go text rest h = grind (arith, enough, (is_fine text rest), (next_smaller rest))
 
 -- ==== The walk over a text finds the spans that the text consists of.
 
@@ -103,11 +89,10 @@ front_walked text front rest spans h f o =
 -- The walk ends where the items do.
 ends_walked : (text front rest : List ℕ) (spans : List SpelledSpan) (stop : Option Fault) → EndsOrStops text front spans rest stop
     → (walk_from text rest ≡ record { starts = []; rest = rest }) × (stop_at (length spans == 0) text rest ≡ stop)
-ends_walked text front (c ∷ cs) spans (Some e) h =
-    let here = stops_at text front spans (c ∷ cs) e (λ n. cc) h in
-    (walk-stop text (c ∷ cs) e here, here)
-ends_walked text front [] (x ∷ xs) stop h = grind (arith, nat_tests, (walk-stop text [] _ (no_span_at_end text)))
-ends_walked text front rest spans stop h = grind (arith, (walk-stop text [] _ (no_span_at_end text)))
+unfolding walk fault_at
+ends_walked text front (c ∷ cs) spans (Some e) h = grind (arith, (stops_at text front spans (c ∷ cs) e (λ n. cc) h))
+ends_walked text front [] (x ∷ xs) stop h = grind (arith, nat_tests)
+ends_walked text front rest spans stop h = grind arith
 
 -- The reference finds any items of a text.
 pub items_walked : (text : List ℕ) (spans : List SpelledSpan) (stop : Option Fault) → Items text spans stop → items text ≡ (spans, stop)
@@ -160,25 +145,26 @@ read_on text front rest spans r f =
 pub begun : (text : List ℕ) → IsReadTo text (take_while is_whitespace text) [] (drop_while is_whitespace text)
 begun text = grind (arith, common_steps, take_while-drop_while, take_while-only, begins-drop_while)
 
--- The text after these spans is parsed up to the end of a walk. If the spans break a limit only together with those of the walk, so does the
--- span at which the sum overflows.
+-- The text after these spans is parsed up to the end of a walk, where there is an error. If the spans break a limit only together with those
+-- of the walk, so does the span at which the sum overflows.
 abbrev ReadsOn : List ℕ → List ℕ → Walk → Type 0
 ReadsOn text rest w = (front : List ℕ) (spans : List SpelledSpan) → IsReadTo text front spans rest
     → ((end : List ℕ) × IsReadTo text end (spans ++ map span_of w.starts) w.rest)
     × (text ≢ bare_zero → WithinLimits spans → ¬ (WithinLimits (spans ++ map span_of w.starts)) → HasFault text NumberOverflow)
+    × ((e : Fault) × (fault_at text w.rest ≡ Some e))
 
-reads_on : (text : List ℕ) → Steps text (ReadsOn text)
-reads_on text = record {
-  stop = λ rest e s front spans r. rw (append-nil spans) ((front, r), λ some within big. absurd (big within));
+read_all : (text : List ℕ) → ReadsOn text (drop_while is_whitespace text) (walk_of text)
+read_all text = by_walk text (ReadsOn text) (record {
+  stop = λ rest e s front spans r. rw (append-nil spans) ((front, r), (λ some within big. absurd (big within)), (e, s));
   go = λ rest w s more front spans r.
       let fine = is_fine text rest s in
       let k = read_on text front rest spans r fine in
       let i = rw append_assoc at (more (front ++ k.0) (spans ++ span_of rest ∷ []) k.1) in
       elim (within_or_beyond (spans ++ span_of rest ∷ []) k.1.formed) [
-        | inl h ↦ (i.0, λ some g big. i.1 some h big)
-        | inr o ↦ (i.0, λ some g big. grind (arith, (r.split), fine, o))
+        | inl h ↦ (i.0, (λ some g big. i.1 some h big), i.2)
+        | inr o ↦ (i.0, (λ some g big. grind (arith, (r.split), fine, o)), i.2)
       ];
-}
+}) (drop_while is_whitespace text)
 
 -- The text ends or stops where no span begins.
 pub stops_here : (text front rest : List ℕ) (spans : List SpelledSpan) (e : Fault) → IsReadTo text front spans rest → fault_at text rest ≡ Some e
@@ -187,19 +173,12 @@ stops_here text front [] [] e r s = OnlyWhitespace refl refl refl
 stops_here text front [] (x ∷ xs) e r s = grind (arith, nat_tests)
 stops_here text front (c ∷ cs) spans e r s = rw s (wrong_stops text front spans (c ∷ cs) e (λ n. cc) (r.follows (λ n. cc)) s)
 
-stopped : (text : List ℕ) → Steps text (λ rest w. (e : Fault) × (fault_at text w.rest ≡ Some e))
-stopped text = record { stop = λ rest e s. (e, s); go = λ rest w s more. more }
-
-read_all : (text : List ℕ) → ReadsOn text (drop_while is_whitespace text) (walk_of text)
-read_all text = by_walk text (ReadsOn text) (reads_on text) (drop_while is_whitespace text)
-
 -- The items of a text, and the rest after them.
 pub items_found_at : (text : List ℕ) → let w = walk_of text in (i : Items text (map span_of w.starts) (stop_at (length w.starts == 0) text w.rest)) × (i.rest ≡ w.rest)
 items_found_at text =
-    let r = (read_all text (take_while is_whitespace text) [] (begun text)).0 in
-    let e = by_walk text _ (stopped text) (drop_while is_whitespace text) in
-    let ends = rw (length-map (walk_of text).starts span_of) at (stops_here text r.0 (walk_of text).rest _ e.0 r.1 e.1) in
-    (record { front = r.0; rest = (walk_of text).rest; split = r.1.split; formed = r.1.formed; ends = ends }, refl)
+    let r = read_all text (take_while is_whitespace text) [] (begun text) in
+    let ends = rw (length-map (walk_of text).starts span_of) at (stops_here text r.0.0 (walk_of text).rest _ r.2.0 r.0.1 r.2.1) in
+    (record { front = r.0.0; rest = (walk_of text).rest; split = r.0.1.split; formed = r.0.1.formed; ends = ends }, refl)
 
 pub items_found : (text : List ℕ) → Items text (items text).0 (items text).1
 unfolding items

@@ -33,16 +33,15 @@ pub record Walk : Type 0 where
 
 -- The walk over at most `n` spans from a rest on.
 unfoldable pub walk : ℕ → List ℕ → List ℕ → Walk
-walk n text [] = record { starts = []; rest = [] }
-walk zero text (c ∷ cs) = record { starts = []; rest = c ∷ cs }
-walk (suc n) text (c ∷ cs) = elim (fault_at text (c ∷ cs)) [
-  | None ↦ let w = walk n text (drop_while is_whitespace (after_word (c ∷ cs))) in record { starts = (c ∷ cs) ∷ w.starts; rest = w.rest }
-  | Some e ↦ record { starts = []; rest = c ∷ cs }
+walk zero text rest = record { starts = []; rest = rest }
+walk (suc n) text rest = elim (fault_at text rest) [
+  | None ↦ let w = walk n text (drop_while is_whitespace (after_word rest)) in record { starts = rest ∷ w.starts; rest = w.rest }
+  | Some e ↦ record { starts = []; rest = rest }
 ]
 
 -- The walk over all spans from `rest` on.
 abbrev pub walk_from : List ℕ → List ℕ → Walk
-walk_from text rest = walk (length rest) text rest
+walk_from text rest = walk (suc (length rest)) text rest
 
 -- The walk over all spans of a text.
 abbrev pub walk_of : List ℕ → Walk
