@@ -1,7 +1,7 @@
 -- The layout of a timestamp, tested on all bytes at once.
 use Rattle.humantime.specs.TimestampResults.{weak_answer}
-use Rattle.std.proofs.Common.{◌≡◌, ℕ, ◌≤◌, List, [], ◌∷◌, length, get_or, drop, refl, arith, ◌+◌, ◌-◌, ◌%◌, ◌^◌, ◌<◌, Bool, cond, eqb, ltb, ◌&&◌, map, replicate, take, Fits, w8, ap, ◌∙◌, ◌*◌}
-use Rattle.std.specs.Prelude.{true, slice_index, Option, Some, None, ◌==◌, if◌then◌else◌, codes, nat_eq, bit_or, ⊤}
+use Rattle.std.proofs.Common.{◌≡◌, ℕ, ◌≤◌, List, [], ◌∷◌, length, get_or, drop, refl, arith, ◌+◌, ◌-◌, ◌%◌, ◌^◌, ◌<◌, Bool, cond, eqb, ltb, ◌&&◌, map, replicate, take, Fits, w8, ap, ◌∙◌, ◌*◌, T}
+use Rattle.std.specs.Prelude.{true, false, slice_index, Option, Some, None, ◌==◌, if◌then◌else◌, codes, nat_eq, bit_or, ⊤}
 use Rattle.std.specs.Str.{byte, all_ascii_digits}
 use Rattle.std.proofs.lemmas.Bool.{and_parts, le-leb, agree_below_at}
 use Rattle.std.proofs.lemmas.Grind.{common_steps}
@@ -16,7 +16,6 @@ use Rattle.std.proofs.lemmas.Simd.{mask_l-mod, tops_compared, length-zip2, zip2_
 use native.Mathlib.Nat.{two-pow-succ, one-le-pow}
 use lib.Lanes.{zip2, mask_l, top, sel_l, dots, all_below, pair_sums, products}
 use mir.Val.{bits, hbits}
-use lib.Dec.{T}
 use Rattle.humantime.specs.StepsOfCalls.{has_layout}
 use Rattle.humantime.specs.Timestamps.{DateAndTime, Letter_T, Space, Fields, fraction_digits, has_two, has_punctuation, has_digits, date_time_of, is_valid_date_time, zone_of, fraction_part, has_point, weak_checks, first_failed, has_separator}
 use Rattle.humantime.proofs.TimestampParts.{has_two_from_test, number_of_two, number_of_four}
@@ -185,9 +184,6 @@ pub ruleset checks = (layout_parts, common_steps, nat_tests, err_from_is_err_and
 unfoldable pub checks_open : ⊤
 unfolding has_separator has_layout weak_answer
 checks_open = tt
-
--- The same for its punctuation alone.
-pub ruleset marks = (nat_tests)
 
 unfoldable pub marks_open : ⊤
 unfolding has_punctuation has_layout weak_answer

@@ -1,8 +1,6 @@
 -- A text of a timestamp has exactly one moment or one error.
 use Rattle.std.proofs.lemmas.Grind.{common_steps}
-use Rattle.std.proofs.Common.{◌≡◌, ℕ, ◌+◌, ◌/◌, ◌%◌, ◌≤◌, List, length, drop, refl, arith, ◌++◌, rules, ◌≢◌, ap, ◌∙◌}
-use Rattle.std.specs.Prelude.{true, false, slice_index, Option, None, ◌↔◌, ℤ, Bool, Result, Err}
-use Rattle.std.proofs.lemmas.Bool.{le-leb}
+use Rattle.std.proofs.Common.{◌≡◌, ℕ, ◌+◌, ◌/◌, ◌%◌, ◌≤◌, List, length, drop, refl, arith, ◌++◌, rules, ◌≢◌, ap, ◌∙◌, true, false, slice_index, Option, None, ◌↔◌, ℤ, Bool, Result, Err, le-leb}
 use Rattle.std.proofs.lemmas.Bool.Decides.{nat_tests}
 use Rattle.std.specs.List.{AllByRecursion}
 use Rattle.humantime.specs.Timestamps.{Fields, fraction_text, fraction_digits, fields_text, IsWeak, zone_text, NoZone, date_time_text, IsStrict, IsWeakMoment, IsStrictMoment, has_two, has_digits, number_between, has_separator, has_punctuation, is_valid_date_time, has_point, weak_checks, first_failed, zone_of, fraction_part, ends_in_zone, has_t_and_zone, strict_checks}
@@ -11,7 +9,7 @@ use Rattle.humantime.specs.declared.date.error.TimestampError.{TimestampError}
 use Rattle.humantime.specs.declared.date.error.TimestampError.TheVariants.{InvalidFormat}
 use Rattle.humantime.specs.TimestampResults.{moment_at, weak_answer, strict_answer, moment_or_error, IsWeakAnswer, IsStrictAnswer}
 use Rattle.humantime.proofs.Dates.{valid_from_test}
-use Rattle.humantime.proofs.TimestampParts.{digits_hold, IsPlain, plain_bytes, zone_found, number_of_two, number_of_four, digits_from_test, zone_shown, has_two_from_test, holds_before_zone, some_zone}
+use Rattle.humantime.proofs.TimestampParts.{digits_hold, IsPlain, plain_bytes, zone_found, number_of_two, number_of_four, digits_from_test, zone_shown, has_two_from_test, holds_before_zone}
 use Rattle.humantime.proofs.Checks.{digits_behind_point, fields_of, all_passed, pairs_from_test, part_digits, nineteen}
 
 -- ==== A text that represents parts passes the checks, and these are the parts at their positions.
@@ -90,9 +88,10 @@ fields_weak bytes passed = grind (arith, (all_passed bytes passed), (written_sho
 -- ==== A text in the strict form is one in the weak form with a `T` and a zone.
 
 zone_by_end : (bytes : List ℕ) (f : Fields) → IsWeak bytes f → (f.zone ≢ NoZone) ↔ (ends_in_zone bytes ≡ true)
+unfolding zone_of
 zone_by_end bytes f w =
     let found = zone_found (date_time_text f ++ fraction_text f.fraction) f.zone (holds_before_zone IsPlain plain_bytes bytes f w) in
-    rw (← some_zone bytes, ap zone_of w.text ∙ found) (grind (arith, common_steps))
+    grind (arith, common_steps, (ap zone_of w.text ∙ found))
 
 pub strict_is_marked_weak : (bytes : List ℕ) (f : Fields) → IsStrict bytes f ↔ (IsWeak bytes f × IsMarked bytes)
 strict_is_marked_weak bytes f = grind (arith, zone_by_end)
@@ -125,17 +124,6 @@ weak_told bytes r is = let one = weak_outcome bytes in rw is (record { value = o
 
 pub strict_told : (bytes : List ℕ) (r : Result ℤ TimestampError) → r ≡ strict_answer bytes → IsStrictAnswer bytes r
 strict_told bytes r is = let one = strict_outcome bytes in rw is (record { value = one.value; error = one.error; answer = refl })
-
--- The result of the strict form, by its own check.
-pub strict_if_marked : (bytes : List ℕ) → has_t_and_zone bytes ≡ true → strict_answer bytes ≡ weak_answer bytes
-unfolding weak_answer strict_answer
-strict_if_marked bytes marked = grind arith
-
-pub strict_unless_marked : (bytes : List ℕ) → has_t_and_zone bytes ≡ false → strict_answer bytes ≡ Err InvalidFormat
-unfolding strict_answer
-strict_unless_marked bytes unmarked = grind arith
-
-pub ruleset strict_marks = (strict_if_marked, strict_unless_marked)
 
 pub strict_moment_is_weak : (bytes : List ℕ) (t : ℤ) → IsStrictMoment bytes t ↔ (IsWeakMoment bytes t × IsMarked bytes)
 strict_moment_is_weak bytes t = grind (arith, (strict_is_marked_weak bytes))

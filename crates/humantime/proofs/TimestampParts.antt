@@ -1,8 +1,7 @@
 -- The parts of a timestamp: numbers, fraction, punctuation and zone.
-use Rattle.std.proofs.Common.{◌≡◌, ℕ, suc, ◌+◌, ◌*◌, ◌<◌, List, [], ◌∷◌, length, refl, add-one, arith, rules, zero, ◌/◌, ◌^◌, ◌++◌, replicate, get_or, take, drop, ◌≢◌, sym, append_assoc}
+use Rattle.std.proofs.Common.{◌≡◌, ℕ, suc, ◌+◌, ◌*◌, ◌<◌, List, [], ◌∷◌, length, refl, add-one, arith, rules, zero, ◌/◌, ◌^◌, ◌++◌, replicate, get_or, take, drop, ◌≢◌, sym, append_assoc, drop-cons, drop_of_length-le}
 use Rattle.std.specs.Prelude.{◌-◌, ◌≤◌, true, slice_index, slice_range, min, if◌then◌else◌, Ok, Err, ◌==◌, ◌&&◌, codes, nat_eq, nat_lt, ⊤}
 use Rattle.std.specs.Int.{IsInRange}
-use Rattle.std.proofs.Math.Seq.{drop-cons}
 use Rattle.std.proofs.lemmas.Bool.Decides.{nat_tests}
 use Rattle.std.proofs.lemmas.Str.{digit_value_digit}
 use Rattle.std.proofs.lemmas.Grind.{common_steps}
@@ -12,7 +11,6 @@ use Rattle.std.specs.Str.{all_ascii_digits, byte}
 use Rattle.std.specs.Str.Parse.{digits_value_after}
 use Rattle.std.proofs.Math.Nat.{pow-suc, mul-le-mul_left, div-div-eq-div-mul}
 use Rattle.std.proofs.lemmas.List.{take-append-drop, drop_more}
-use Rattle.std.proofs.Math.ListN.{drop_of_length-le}
 use Rattle.humantime.specs.Timestamps.{has_two, number_between, ends_in_zone, zone_of, before_zone, fraction_nanos, Fields, fraction_text, date_time_text, IsWeak, Zone, zone_text, has_t_and_zone, has_point}
 use Rattle.humantime.specs.declared.date.error.TimestampError.TheVariants.{InvalidDigit}
 use Rattle.humantime.specs.StepsOfCalls.{digits_answer}
@@ -142,10 +140,6 @@ pub zero_offset_at_end : (bytes : List ℕ) → 6 ≤ length bytes → ends_with
     && (slice_index bytes (length bytes - 3) == 58) && (slice_index bytes (length bytes - 2) == 48) && (slice_index bytes (length bytes - 1) == 48))
 zero_offset_at_end bytes long = rw (last_six bytes (length bytes - 6) (omega (arith, long))) (grind (arith, common_steps))
 
-pub some_zone : (bytes : List ℕ) → nat_lt 0 (length (zone_text (zone_of bytes))) ≡ ends_in_zone bytes
-unfolding zone_of
-some_zone bytes = search rules
-
 pub zone_shown : (bytes : List ℕ) → bytes ≡ before_zone bytes ++ zone_text (zone_of bytes)
 unfolding zone_of
 zone_shown bytes = grind (arith, common_steps, take-append-drop)
@@ -163,15 +157,3 @@ plain_bytes = grind arith
 pub zone_found : (xs : List ℕ) (z : Zone) → AllByRecursion IsPlain xs → zone_of (xs ++ zone_text z) ≡ z
 unfolding zone_of
 zone_found xs z h = grind (arith, common_steps, (sym (append_assoc xs (codes "+00:0") (codes "0"))))
-
--- What the test for a zone needs.
-pub ruleset zones = (zero_offset_at_end, nat_tests)
-
--- The definitions of zones and of fractions, opened together.
-unfoldable pub zones_open : ⊤
-unfolding has_t_and_zone zone_of
-zones_open = tt
-
-unfoldable pub fractions_open : ⊤
-unfolding has_point fraction_nanos
-fractions_open = tt

@@ -1,5 +1,4 @@
-use Rattle.std.proofs.Common.{sym, ◌∙◌}
-use Rattle.std.proofs.lemmas.Bool.{eq-eqb, eqb-true}
+use Rattle.std.proofs.Common.{sym, ◌∙◌, eq-eqb, eqb-true}
 use Rattle.humantime.proofs.Checks.{layout_parts, layout_tested, date_time_summed}
 use Rattle.humantime.proofs.date.parse.parse_date_time.Goals as goal
 
