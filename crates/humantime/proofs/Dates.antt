@@ -1,6 +1,5 @@
 -- Each day has exactly one date, which is computed without a loop over years.
-use Rattle.std.proofs.Common.{◌≡◌, ℕ, zero, suc, ◌+◌, ◌-◌, ◌*◌, ◌<◌, ◌≤◌, refl, arith, IsTrue, inl, inr, ◌∙◌, sym}
-use Rattle.std.specs.Prelude.{nat_lt, if◌then◌else◌, [], ◌∷◌, slice_index_or, min}
+use Rattle.std.proofs.Common.{◌≡◌, ℕ, zero, suc, ◌+◌, ◌-◌, ◌*◌, ◌<◌, ◌≤◌, refl, arith, IsTrue, inl, inr, ◌∙◌, sym, nat_lt, if◌then◌else◌, [], ◌∷◌, slice_index_or, min}
 use Rattle.std.specs.Int.{IsInRange}
 use Rattle.std.proofs.lemmas.Bool.Decides.{nat_tests}
 use Rattle.std.proofs.lemmas.Grind.{common_steps}
@@ -112,13 +111,10 @@ pub before_later : (d : Date) → IsDate d → ((later : ℕ) → d.year < later
     × ((later : ℕ) → d.month < later → days_of_months d.year (d.month - 1) + (d.day - 1) < days_of_months d.year (later - 1))
 before_later d valid = let within = valid_from_test d.year d.month d.day valid in (before_year d.year d.month d.day within, before_month d.year d.month d.day within)
 
-pub same_date : (a b : Date) → IsDate a → IsDate b → day_of a ≡ day_of b → a ≡ b
-same_date a b valid valid' same = grind (arith, valid_from_test, (before_later a valid), (before_later b valid'))
-
 pub one_date : (day : ℕ) → day ≤ 2_932_896 → ExactlyOne (IsDateOfDay day)
 one_date day few =
     let found = date_of_is day few in
-    (date_of day, found, λ other is. same_date other (date_of day) is.0 found.0 (is.1 ∙ sym found.1))
+    (date_of day, found, λ other is. grind (arith, valid_from_test, (before_later other is.0), (before_later (date_of day) found.0)))
 
 -- No date has a later day than the last one.
 pub day_at_most : (d : Date) → IsDate d → day_of d ≤ 2_932_896

@@ -1,13 +1,11 @@
 -- The theorems that callers cite: the laws over plain variables, each under the name of its function in `laws`, and some others.
 use Rattle.std.proofs.lemmas.Bool.Decides.{nat_tests}
-use Rattle.std.proofs.Common.{rules, ◌≡◌, ℕ, ◌<◌, List, Result, chars, refl, sym, ◌∙◌, arith, true, [], ◌∷◌, ◌+◌, ◌++◌, inl, inr, ◌≤◌, ◌-◌, ◌/◌, ◌^◌}
-use Rattle.std.specs.Prelude.{◌↔◌, Ok, IsTrue, ℤ, pos, negsuc, ◌≤ℤ◌, ◌<ℤ◌, IfSome}
+use Rattle.std.proofs.Common.{rules, ◌≡◌, ℕ, ◌<◌, List, Result, chars, refl, sym, ◌∙◌, arith, true, [], ◌∷◌, ◌+◌, ◌++◌, inl, inr, ◌≤◌, ◌-◌, ◌/◌, ◌^◌, ◌↔◌, Ok, IsTrue, ℤ, pos, negsuc, ◌≤ℤ◌, ◌<ℤ◌, IfSome, nat_cmp, int_cmp, is_le, is_lt}
 use Rattle.std.proofs.lemmas.Slice.Eq.{bytes_eq-Decides}
 use Rattle.std.proofs.lemmas.Grind.{common_steps}
 use Rattle.std.specs.List.{AllByRecursion}
 use Rattle.std.proofs.Math.Nat.{mul-mod_right, div-add-mod}
 use Rattle.std.specs.Cmp.Lexicographic.{slice_cmp}
-use Rattle.std.specs.Ordering.{nat_cmp, int_cmp, is_le, is_lt}
 use Rattle.std.proofs.lemmas.Int.{ints}
 use Rattle.humantime.specs.Laws.{ExactlyOne, HasOneOutcome, ItemsDecide, ItemsTile, PrintsAndReads, TextsTellApart, IsBounded, IsCanonicalAgain, OlderFormed, older_additions, AcceptedWithZeros, OlderZero, OlderSum, KeepsValueWithZeros, AreReordered, KeepsValueWithoutWhitespace, AddWhenJoined, KeepValueReordered, HasOneTimestamp, IsWeakAndMarked, MomentPrintsAndReads}
 use Rattle.humantime.specs.Items.{AreItems, SpanView}
@@ -19,19 +17,17 @@ use Rattle.humantime.specs.DurationResults.{item_views, duration_text, duration_
 use Rattle.humantime.specs.Durations.{SpelledSpan, additions, Formed, fits, Accepted, BareZero, SumOf}
 use Rattle.humantime.specs.Timestamps.{IsWeak, IsStrict, weak_checks, strict_checks, MomentToPrint, cut, IsPrinted, IsPrintedWith, IsPrintable}
 use Rattle.humantime.specs.TimestampResults.{printed_text, weak_answer, strict_answer}
-use Rattle.humantime.proofs.Items.{front_tiled, text_tiled}
-use Rattle.humantime.proofs.Outcomes.{outcome_accepted, accepted_from_outcome, outcome_fault}
+use Rattle.humantime.proofs.Items.{are_items, first_error_answers, front_tiled, one_span_view, text_tiled}
+use Rattle.humantime.proofs.Outcomes.{accepted_from_outcome, answer_accepts, answer_faults, exactly_one_outcome, items_decide_fault, items_decide_overflow, items_decide_value, one_list_of_items, one_reading, outcome_accepted, outcome_fault, reordered_value, zero_or_spans}
 use Rattle.humantime.proofs.Characters.{significant_shorter, whole_part_kept, amount_kept}
 use Rattle.humantime.proofs.TextWalks.{not_zero}
 pub use Rattle.humantime.proofs.PrintedTimestamps.{printed_some, stamps_in_order, weak_printable, strict_printable, places_of_bound}
 use Rattle.humantime.proofs.PrintedTimestamps.{text_displayed, printed_reads, one_text}
 pub use Rattle.humantime.proofs.Dates.{one_date, day_at_most}
 pub use Rattle.humantime.proofs.Counts.{printed_is_canon}
+use Rattle.humantime.proofs.Counts.{canon_is_text, canon_length, counts_small}
 use Rattle.humantime.specs.contracts.duration.error.DurationErrorPartialEq.TheImpl as errors
 use Rattle.humantime.proofs.CanonicalTexts as canonical
-use Rattle.humantime.proofs.Counts as counts
-use Rattle.humantime.proofs.Items as views
-use Rattle.humantime.proofs.Outcomes as outcomes
 use Rattle.humantime.proofs.JoinedTexts as drops_whitespace
 use Rattle.humantime.proofs.TimestampOutcomes as read
 
@@ -40,17 +36,15 @@ use Rattle.humantime.proofs.TimestampOutcomes as read
 -- ---- texts of durations
 
 pub one_outcome : (text : List ℕ) → HasOneOutcome text
-one_outcome text =
-    search (rules, outcomes.exactly_one_outcome, outcomes.one_reading, outcomes.one_list_of_items, outcomes.answer_accepts, outcomes.answer_faults)
+one_outcome text = search (rules, exactly_one_outcome, one_reading, one_list_of_items, answer_accepts, answer_faults)
 
 pub spans_decide : (text : List ℕ) → ItemsDecide text
-spans_decide text =
-    search (rules, outcomes.one_list_of_items, outcomes.items_decide_value, outcomes.items_decide_fault, views.first_error_answers, outcomes.items_decide_overflow)
+spans_decide text = search (rules, one_list_of_items, items_decide_value, items_decide_fault, first_error_answers, items_decide_overflow)
 
 pub spans_tile : (text : List ℕ) → ItemsTile text
 spans_tile text =
-    let only = views.one_span_view text in
-    let one : ExactlyOne (AreItems text) = (item_views text, views.are_items text, only) in
+    let only = one_span_view text in
+    let one : ExactlyOne (AreItems text) = (item_views text, are_items text, only) in
     let same = λ (xs ys : List (Result SpanView Fault)) (a : AreItems text xs) (b : AreItems text ys). only ys b ∙ sym (only xs a) in
     search (rules, one, same, front_tiled, text_tiled)
 
@@ -66,25 +60,25 @@ errors_equal e f = grind (arith, nat_tests, bytes_eq-Decides)
 
 pub printed_duration_reads : (d : ℕ) → d < duration_end → PrintsAndReads d
 printed_duration_reads d fits =
-    let one : ExactlyOne (IsCanonicalText d) = (duration_text d, counts.printed_is_canon d, counts.canon_is_text d) in
-    search (rules, one, (canonical.canon_reads d (omega arith)), outcomes.outcome_accepted)
+    let one : ExactlyOne (IsCanonicalText d) = (duration_text d, printed_is_canon d, canon_is_text d) in
+    search (rules, one, (canonical.canon_reads d (omega arith)), outcome_accepted)
 
 pub printed_durations_differ : (a b : ℕ) → a < duration_end → b < duration_end → TextsTellApart a b
 printed_durations_differ a b fits_a fits_b =
-    search (rules, (canonical.texts_tell_apart a b (omega arith) (omega arith)), counts.printed_is_canon)
+    search (rules, (canonical.texts_tell_apart a b (omega arith) (omega arith)), printed_is_canon)
 
 pub printed_bounds : (d : ℕ) → d < duration_end → IsBounded d
-printed_bounds d fits = record { length = counts.canon_length d (omega arith); counts = counts.counts_small d }
+printed_bounds d fits = record { length = canon_length d (omega arith); counts = counts_small d }
 
 pub canonical_again : (s : List ℕ) → IsCanonicalAgain s
 canonical_again s =
     let text = canonical.answer_is_canonical s (canonical_answer (chars s)) refl in
     record {
-      some = λ v accepted. (duration_text v, record { duration = v; accepted = accepted; canon = counts.printed_is_canon v });
+      some = λ v accepted. (duration_text v, record { duration = v; accepted = accepted; canon = printed_is_canon v });
       value = canonical.keeps_its_value s;
       again = canonical.keeps_its_text s;
       answer = λ t h. (canonical.answer_is_canonical t (canonical_answer (chars t)) refl t).1 ((canonical.keeps_its_text s t t ((text t).0 h)).1 refl);
-      reads = λ v t read h. outcomes.outcome_accepted (chars t) v (canonical.keeps_its_value s v t ((outcomes.answer_accepts (chars s) (duration_answer (chars s)) refl v).0 read) ((text t).0 h));
+      reads = λ v t read h. outcome_accepted (chars t) v (canonical.keeps_its_value s v t ((answer_accepts (chars s) (duration_answer (chars s)) refl v).0 read) ((text t).0 h));
       text = text;
       fault = canonical.answer_is_fault s (canonical_answer (chars s)) refl;
     }
@@ -120,8 +114,8 @@ without_ws text = search (rules, drops_whitespace.accepted_without_whitespace, o
 
 pub joined : (a b : List ℕ) → AddWhenJoined a b
 joined a b = record {
-  first = outcomes.zero_or_spans a;
-  second = outcomes.zero_or_spans b;
+  first = zero_or_spans a;
+  second = zero_or_spans b;
   sum = λ ss ts u v h k. (drops_whitespace.joined_room a b ss ts u v h k).0;
   overflow = λ ss ts u v h k. (drops_whitespace.joined_room a b ss ts u v h k).1;
   one = drops_whitespace.joined_sum_or_overflow a b;
@@ -134,8 +128,8 @@ joined a b = record {
 
 pub reordered : (a b : List ℕ) → KeepValueReordered a b
 reordered a b =
-    let alike = λ (r : AreReordered a b) (u v : ℕ). outcomes.reordered_value a b r.spans r.others u v r.reads r.other_reads r.moved in
-    search (rules, outcomes.reordered_value, alike, accepted_from_outcome, not_zero)
+    let alike = λ (r : AreReordered a b) (u v : ℕ). reordered_value a b r.spans r.others u v r.reads r.other_reads r.moved in
+    search (rules, reordered_value, alike, accepted_from_outcome, not_zero)
 
 -- ==== The laws of timestamps and days as theorems over plain variables, each under its name in `laws`, and others that callers cite.
 
@@ -221,6 +215,3 @@ earlier_in_millis a b x y = earlier a b 3 x y
 -- With nine digits nothing is rounded.
 pub earlier_in_nanos : (a b : ℤ) (x y : List ℕ) → IsPrinted a 9 x → IsPrinted b 9 y → (a <ℤ b) ↔ IsTrue (is_lt (slice_cmp nat_cmp x y))
 earlier_in_nanos a b x y p q = grind (arith, ints, (earlier a b 9 x y p q))
-
--- The order of printed moments.
-pub ruleset moments_in_order = (stamps_in_order, earlier_in_nanos)

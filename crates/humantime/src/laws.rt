@@ -295,9 +295,10 @@ pub fn one_stamp_outcome(s: &str)
     ensures strict { HasOneTimestamp (strict_checks s.now) (IsStrict s.now) (strict_answer s.now) }
 {}
 
-/// States that a time from 1970 to 9999 has exactly one printed string, which both parsers parse back.
+/// States that a time from 1970 to 9999 has exactly one printed string with a given number of digits, which both parsers parse.
 ///
-/// They return the time truncated to the printed digits. `Display` writes this string.
+/// The digits, none to nine, are those of a fraction of a second. The parsers return the time truncated to them: to whole seconds for none,
+/// and unchanged for nine. `Display` writes this string.
 ///
 /// # Examples
 ///
@@ -332,7 +333,7 @@ pub fn printed_moment_reads(x: &Rfc3339Timestamp)
 /// let second = format_rfc3339_nanos(later).text(&mut other).ok_or("out of range")?;
 /// assert!(rt; first.as_bytes() < second.as_bytes());
 /// ```
-#[tactic(auto, using(crate::proofs::Theorems::moments_in_order))]
+#[tactic(auto, using(crate::proofs::Theorems::stamps_in_order, crate::proofs::Theorems::earlier_in_nanos))]
 pub fn stamps_in_order(a: SystemTime, b: SystemTime)
     ensures order { PrintInOrder a b }
     ensures nanos { (x : List ℕ) (y : List ℕ) → IsPrinted a 9 x → IsPrinted b 9 y → (a <ℤ b) ↔ IsTrue (is_lt (slice_cmp nat_cmp x y)) }

@@ -1,6 +1,5 @@
-use Rattle.std.proofs.Common.{chars}
 use Rattle.humantime.proofs.Theorems as theorem
 use Rattle.humantime.proofs.laws.one_outcome.Goals as goal
 
 pub returns : goal.returns
-returns c = theorem.one_outcome (chars c.args.s.now)
+returns c = theorem.one_outcome _

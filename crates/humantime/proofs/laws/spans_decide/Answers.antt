@@ -1,6 +1,5 @@
-use Rattle.std.proofs.Common.{chars}
 use Rattle.humantime.proofs.Theorems as theorem
 use Rattle.humantime.proofs.laws.spans_decide.Goals as goal
 
 pub returns : goal.returns
-returns c = theorem.spans_decide (chars c.args.s.now)
+returns c = theorem.spans_decide _

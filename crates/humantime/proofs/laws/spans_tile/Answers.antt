@@ -1,6 +1,5 @@
-use Rattle.std.proofs.Common.{chars}
 use Rattle.humantime.proofs.Theorems as theorem
 use Rattle.humantime.proofs.laws.spans_tile.Goals as goal
 
 pub returns : goal.returns
-returns c = theorem.spans_tile (chars c.args.s.now)
+returns c = theorem.spans_tile _
