@@ -1,11 +1,11 @@
 -- Classes of characters, the longest runs of a class, and the value of digits.
-use Rattle.std.proofs.Common.{◌≡◌, ◌≤◌, ◌<◌, ℕ, true, false, refl, sym, ◌∙◌, arith, ◌≢◌, Bool, List, [], ◌∷◌, ◌++◌, length, ap, inl, inr, length-append, ◌+◌, ◌*◌, ◌/◌, ◌%◌, ◌^◌, append_assoc, reverse, ◌&&◌, ◌||◌, ◌==◌, nat_le}
+use Rattle.std.proofs.Common.{◌≡◌, ◌≤◌, ◌<◌, ℕ, true, false, refl, sym, ◌∙◌, arith, ◌≢◌, Bool, List, [], ◌∷◌, ◌++◌, length, ap, inl, inr, length-append, ◌+◌, ◌*◌, ◌/◌, ◌%◌, ◌^◌, append_assoc, reverse, ◌&&◌, ◌||◌, ◌==◌, nat_le, Decides, pow-add}
 use Rattle.std.specs.Char.{is_whitespace as std_is_whitespace, is_ascii_digit, digit_value}
-use Rattle.std.proofs.lemmas.Bool.{or_left, or_right, cases_Bool}
+use Rattle.std.proofs.lemmas.Bool.{agree_below_at, or_left, or_right, cases_Bool}
 use Rattle.std.proofs.lemmas.Bool.Decides.{nat_tests}
 use Rattle.std.proofs.lemmas.Grind.{common_steps}
+use Rattle.std.specs.List.{AllByRecursion, list_all}
 use Rattle.std.specs.Str.Parse.{digits_value_after}
-use Rattle.std.proofs.lemmas.Nat.{pow-add}
 use Rattle.std.proofs.lemmas.Nat.Gcd.{dvd_of_mod-eq-zero, mod-eq-zero_of_dvd}
 use Rattle.std.proofs.Math.Nat.{pow-suc, one-le-pow, mul_assoc, mul_right_comm, mul-div-mul_right, dvd_of_mul-dvd-mul_right, le-mul_of_pos_right}
 use Rattle.std.proofs.lemmas.List.{length-reverse, reverse-append, reverse-reverse}
@@ -30,14 +30,9 @@ unfolding is_letter
 letter_not_whitespace c e = grind (arith, nat_tests, (whitespace_is c))
 
 -- Up to U+007F, whitespace is the tab, the four characters after it, and the space.
-pub low_whitespace : (c : ℕ) → c ≤ 32 → is_whitespace c ≡ (c == 32 || (nat_le 9 c && nat_le c 13))
-low_whitespace c low = let same : std_is_whitespace c ≡ (c == 32 || (nat_le 9 c && nat_le c 13)) = grind (arith, nat_tests) in sym (whitespace_is c) ∙ same
-
-pub no_whitespace_between : (c : ℕ) → 32 < c → c < 128 → is_whitespace c ≡ false
-no_whitespace_between c low high = grind (arith, nat_tests, (whitespace_is c))
-
-pub whitespace_not_digit : (c : ℕ) → is_whitespace c ≡ true → is_digit c ≡ false
-whitespace_not_digit c = grind (arith, digit_not_whitespace)
+pub ascii_whitespace : (c : ℕ) → c < 128 → is_whitespace c ≡ (c == 32 || (nat_le 9 c && nat_le c 13))
+unfolding is_whitespace whitespace_chars
+ascii_whitespace c low = agree_below_at is_whitespace (λ c. c == 32 || (nat_le 9 c && nat_le c 13)) 128 c refl low
 
 pub point_not_numeric : (c : ℕ) → is_point c ≡ true → is_numeric c ≡ false
 unfolding is_digit is_point
@@ -58,10 +53,11 @@ pub digit_is : (c : ℕ) → is_ascii_digit c ≡ is_digit c
 unfolding is_digit
 digit_is c = refl
 
-pub wide_no_digit : (c : ℕ) → 128 ≤ c → is_ascii_digit c ≡ false
-wide_no_digit c wide = grind (arith, nat_tests)
+-- ==== Tests of each element, the longest prefix of a text that passes a test, and what follows it.
 
--- ==== The longest prefix of a text that passes a test, and what follows it.
+pub all_pass : {A : Type 0} (p : A → Bool) (xs : List A) → Decides (list_all p xs) (AllByRecursion (λ x. p x ≡ true) xs)
+all_pass p [] = grind arith
+all_pass p (x ∷ xs) = grind (arith, (all_pass p xs))
 
 pub take_while-drop_while : (p : ℕ → Bool) (cs : List ℕ) → take_while p cs ++ drop_while p cs ≡ cs
 take_while-drop_while p [] = refl

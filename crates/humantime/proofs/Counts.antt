@@ -1,17 +1,15 @@
 -- The counts of a duration by unit, and the texts that they print as.
-use Rattle.std.proofs.Common.{ℕ, ◌<◌, ◌≤◌, length, arith, ◌≡◌, ◌/◌, ◌%◌, List, [], ◌∷◌, refl, ap, ◌∙◌, rules, ◌++◌, ◌^◌, true, nat_cmp, IsTrue, ◌*◌, Bool, cond, ◌+◌}
+use Rattle.std.proofs.Common.{ℕ, ◌<◌, ◌≤◌, length, arith, ◌≡◌, ◌/◌, ◌%◌, List, [], ◌∷◌, refl, ap, ◌∙◌, rules, ◌++◌, ◌^◌, true, nat_cmp, IsTrue, ◌*◌, Bool, cond, ◌+◌, append_assoc, length-append, is_le}
 use Rattle.std.specs.Prelude.{decimal, ◌==◌, if◌then◌else◌, codes, ◌&&◌, Some, None, nat_lt, nat_le, map, slice_index, ⊤}
 use Rattle.std.proofs.lemmas.Fmt.{length-decimal-le, decimal_is_IsNumeral}
 use Rattle.std.proofs.lemmas.Grind.{common_steps}
 use Rattle.std.specs.List.{AllByRecursion, list_all, zip, filter, join_with_byte}
 use Rattle.std.proofs.lemmas.Bool.Decides.{nat_tests}
-use Rattle.std.proofs.lemmas.List.{append_assoc, length-append}
 use Rattle.std.specs.Str.Parse.{AllDigits}
 use Rattle.std.proofs.lemmas.Str.Parse.{digit_from_value}
 use Rattle.std.proofs.Math.Nat.{mul_comm, div-add-mod}
 use Rattle.std.proofs.lemmas.Nat.{le-div, mod_below, div_below}
 use Rattle.std.proofs.lemmas.Bool.{cases_lt}
-use Rattle.std.specs.Ordering.{is_le}
 use Rattle.std.proofs.lemmas.Cmp.{nat_list_cmp_total}
 use Rattle.std.proofs.lemmas.Map.Lookups.{exact_bytes}
 use Rattle.std.specs.Cmp.Lexicographic.{slice_cmp}
@@ -25,7 +23,7 @@ use Rattle.humantime.specs.StepsOfCalls.{joined_after}
 use Rattle.humantime.specs.PrintedDurations.{Suffix, weights, suffixes, printed_count, printed_counts, joined_by_space, weighted_sum, AreCounts, IsCanonicalText}
 use Rattle.humantime.specs.Characters.{begins, decimal_value, is_digit, is_numeric, digits, is_letter, u64_max}
 use Rattle.humantime.specs.Durations.{HasOnly, SpelledSpan, Quantity, Nanos, Seconds, Scale, scale_of_word, quantity_nanos, size, is_some_and}
-use Rattle.humantime.proofs.Characters.{digit_is_numeric}
+use Rattle.humantime.proofs.Characters.{all_pass, digit_is_numeric}
 
 -- ==== The digits of a number in decimal, and how many they are.
 
@@ -75,9 +73,6 @@ written_is_text d =
     let counts : counts_of (d / nanos_per_second) (d % nanos_per_second) ≡ divided weights d = grind arith in
     ap or_zero (ap (λ ns. with_counts [] ns suffixes) counts ∙ one_by_one [] (divided weights d) suffixes (search rules))
     ∙ or_zero_joined (divided weights d) suffixes (search rules)
-
--- The lemmas about the text of the nine counts, and about the lengths of counts.
-pub ruleset counts_written = (written_is_text, decimal_short)
 
 -- ==== The digits of a printed count, as a number in a text.
 
@@ -157,12 +152,8 @@ is_word w m word =
     is_utf8 word && list_all is_letter (chars word) && begins is_letter (chars word)
     && is_some_and (λ u. (quantity_nanos u.whole == w) && nat_lt 0 (size u.whole) && is_of_kind m u.whole) (scale_of_word (chars word))
 
-only_from : (p : ℕ → Bool) (cs : List ℕ) → list_all p cs ≡ true → HasOnly p cs
-only_from p [] h = tt
-only_from p (c ∷ cs) h = grind (arith, (only_from p cs))
-
 pub is_word-true : (w m : ℕ) (word : List ℕ) → is_word w m word ≡ true → IsPrintedWord w m word
-is_word-true w m word h = grind (arith, nat_tests, IsUtf8-from_is_utf8, only_from)
+is_word-true w m word h = grind (arith, nat_tests, IsUtf8-from_is_utf8, all_pass)
 
 -- The units, each as its weight and suffix.
 abbrev pub sized_units : List (ℕ × Suffix)

@@ -6,17 +6,14 @@ use Rattle.std.proofs.Math.Utf8.{encode}
 use Rattle.std.proofs.lemmas.Bool.{cases_lt, ne_eqb}
 use Rattle.std.proofs.lemmas.Bool.Decides.{nat_tests}
 use Rattle.std.proofs.lemmas.List.{get_or-drop, take-append-drop, drop-drop, append_cancel_right}
-use Rattle.std.proofs.lemmas.Str.{IsUtf8-drop, IsCharBoundary-past_char, drop_past_char, chars_past_char, byte_from_char, char_from_byte, len_utf8_ascii, len_utf8_bounds, encodes-chars, encode_same, IsCharBoundary-start, IsUtf8-take, IsCharBoundary-at_seam, chars-append, chars-nil}
+use Rattle.std.proofs.lemmas.Str.{IsUtf8-drop, IsCharBoundary-past_char, drop_past_char, chars_past_char, byte_from_char, char_from_byte, len_utf8_ascii, len_utf8_bounds, encodes-chars, encode_same, IsCharBoundary-start, IsUtf8-take, IsCharBoundary-from_drop, chars-append, chars-nil}
 use Rattle.humantime.specs.DurationErrors.{IsCharStartIn, IsRangeIn, IsPartOf, may_follow_span}
 use Rattle.humantime.specs.Characters.{begins, drop_while, take_while, is_letter, is_whitespace, whitespace_chars, is_digit, byte_length, offset_of}
 use Rattle.humantime.specs.StepsOfCalls.{after_space}
 use Rattle.humantime.specs.StepsOfParts.{whitespace_len, IsTail}
-use Rattle.humantime.proofs.Characters.{digit_not_whitespace, letter_not_whitespace, whitespace_is_numeric, take_while-drop_while, low_whitespace, no_whitespace_between}
+use Rattle.humantime.proofs.Characters.{ascii_whitespace, digit_not_whitespace, letter_not_whitespace, whitespace_is_numeric, take_while-drop_while}
 
 -- ==== Offsets in a text, and the characters at them.
-
--- A character may begin at the start of a text.
-pub ruleset starts = (IsCharBoundary-start)
 
 -- The character at an offset, and the offset after it.
 pub record IsCharAt (text : List ℕ) (at char next : ℕ) : Type 0 where
@@ -49,6 +46,11 @@ char_at text at u here = by (chars (drop at text)) (encodes-chars (drop at text)
             wide = λ large. grind (arith, (cases_lt c 128), (byte_from_char rest (encode_utf8_all cs) c (sym e)), first, large, some);
           },
         )
+
+-- There is a character at an offset at which one begins.
+pub chars_at : (text : List ℕ) (at : ℕ) → IsUtf8 text → IsCharStartIn text at
+    → chars (drop at text) ≡ get_or (chars (drop at text)) 0 0 ∷ drop 1 (chars (drop at text))
+chars_at text at u here = grind (arith, common_steps, (char_at text at u here))
 
 -- An ASCII byte is a character.
 pub ascii_at : (text : List ℕ) (at : ℕ) → IsUtf8 text → IsCharStartIn text at → get_or text at 0 < 128 → IsCharAt text at (get_or text at 0) (at + 1)
@@ -109,10 +111,6 @@ space_ends text u some e =
 
 -- ==== The end parts of a text, as bytes.
 
--- The text before the rest.
-abbrev pub front_of : List ℕ → List ℕ → List ℕ
-front_of text rest = take (length text - length rest) text
-
 pub whole_tail : (text : List ℕ) → IsUtf8 text → IsTail text text
 whole_tail text u = grind (arith, common_steps)
 
@@ -127,11 +125,8 @@ tail_tail text middle rest t r = record {
   whole = t.whole;
 }
 
-pub tail_whole : (text rest : List ℕ) → IsTail text rest → text ≡ front_of text rest ++ rest
-tail_whole text rest t = grind (arith, t.ends, (take-append-drop (length text - length rest) text))
-
 pub tail_boundary : (text rest : List ℕ) → IsTail text rest → IsCharBoundary text (length text - length rest)
-tail_boundary text rest t = grind (arith, common_steps, ap length (tail_whole text rest t), length-append (front_of text rest) rest, IsCharBoundary-at_seam)
+tail_boundary text rest t = IsCharBoundary-from_drop text (length text - length rest) (omega arith) (rw (← t.ends) (t.utf8))
 
 pub tail_offset : (text rest : List ℕ) → IsTail text rest → length text - length rest ≡ offset_of (chars text) (chars rest)
 tail_offset text rest t = grind (arith, encodes-chars)
@@ -177,7 +172,7 @@ pub ruleset rests = (slice_tail, whole_tail, no_bytes, some_chars, no_chars_at, 
 pub ruleset first = (rests, char_at, digit_at, digit_stays, cases_lt, ne_eqb, common_steps, nat_tests)
 
 -- Whitespace at an offset.
-pub ruleset whitespace_at = (ascii_at, no_whitespace_at_mu, low_whitespace, no_whitespace_between, common_steps, nat_tests)
+pub ruleset whitespace_at = (ascii_at, ascii_whitespace, no_whitespace_at_mu, common_steps, nat_tests)
 
 -- What ends a span.
 pub ruleset span_ends = (rests, space_ends, whitespace_ends, len_utf8_bounds, common_steps)

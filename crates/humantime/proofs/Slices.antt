@@ -13,8 +13,8 @@ use Rattle.humantime.specs.Durations.{HasOnly, SpelledSpan, SpellsFraction}
 use Rattle.humantime.specs.DurationErrors.{span_of, after_number, after_fraction, fraction_of, word_of, after_word, BeginsSpan}
 use Rattle.humantime.specs.DurationResults.{trimmed, fraction_slice, view_at, spelled, number_slice}
 use Rattle.humantime.specs.Items.{IsDigitSlice, SpanView, IsFractionView, IsSpanView, AreSpanViews}
-use Rattle.humantime.proofs.Characters.{whitespace_is, whitespace_not_digit, letter_not_whitespace, take_while-append, digit_not_whitespace, drop_while-append, digit_is_numeric, ends-append, take_while-drop_while, take_while-only, begins_take_while}
-use Rattle.humantime.proofs.Spellings.{begins_word, read_spelled, next_of, spells-append, written_here}
+use Rattle.humantime.proofs.Characters.{whitespace_is, letter_not_whitespace, take_while-append, digit_not_whitespace, drop_while-append, digit_is_numeric, begins-append, ends-append, take_while-drop_while, take_while-only, begins_take_while}
+use Rattle.humantime.proofs.Spellings.{read_spelled, next_of, spells-append, written_here}
 
 -- ==== Slices without leading and trailing whitespace.
 
@@ -24,20 +24,17 @@ digits_kept [] = refl
 digits_kept (c ∷ cs) = by (std_is_whitespace c) (drop_trailing_whitespace cs) refl (digits_kept cs)
   where
     by : (w : Bool) (ds : List ℕ) → std_is_whitespace c ≡ w → digits ds ≡ digits cs → digits (cond (w && eqb (length ds) 0) [] (c ∷ ds)) ≡ digits (c ∷ cs)
-    by true [] e d = grind (arith, whitespace_is, whitespace_not_digit)
+    by true [] e d = grind (arith, whitespace_is, digit_not_whitespace)
     by true (x ∷ xs) e d = rw (suc_not_zero (length xs)) (grind arith)
     by false ds e d = grind arith
 
-digits_drop_while : (cs : List ℕ) → digits (drop_while is_whitespace cs) ≡ digits cs
+pub digits_drop_while : (cs : List ℕ) → digits (drop_while is_whitespace cs) ≡ digits cs
 digits_drop_while [] = refl
-digits_drop_while (c ∷ cs) = grind (arith, (digits_drop_while cs), whitespace_not_digit)
-
-pub digits_trimmed : (cs : List ℕ) → digits (trimmed cs) ≡ digits cs
-digits_trimmed cs = digits_kept (drop_while is_whitespace cs) ∙ digits_drop_while cs
+digits_drop_while (c ∷ cs) = grind (arith, (digits_drop_while cs), digit_not_whitespace)
 
 -- The slices represent the span that they are taken from.
 pub spelled_at : (text rest : List ℕ) → spelled (view_at text rest).number (view_at text rest).fraction (view_at text rest).unit ≡ span_of rest
-spelled_at text rest = grind (arith, common_steps, digits_kept, digits_trimmed)
+spelled_at text rest = grind (arith, common_steps, digits_kept, digits_drop_while)
 
 -- There is no slice of a fraction if a letter follows the number.
 pub no_slice : (tail : List ℕ) → begins is_letter tail ≡ true → fraction_slice tail ≡ None
@@ -61,6 +58,10 @@ skipped (c ∷ cs) = grind (arith, whitespace_is, skipped cs)
 pub start_trimmed : (text cut : List ℕ) → IsUtf8 cut → cut ≡ trim_start text → chars cut ≡ drop_while is_whitespace (chars text)
 unfolding trim_start
 start_trimmed text cut u e = encodes_same (chars cut) (skip_leading_whitespace (chars text)) (encodes-chars cut u ∙ e) ∙ skipped (chars text)
+
+pub slice_trimmed : (text : List ℕ) → IsUtf8 (trim_start text) → IsUtf8 (trim_end (trim_start text))
+    → chars (trim_end (trim_start text)) ≡ trimmed (chars text)
+slice_trimmed text u v = end_trimmed _ _ v refl ∙ ap drop_trailing_whitespace (start_trimmed _ _ u refl)
 
 -- ==== Digits and whitespace, with at least one digit, have one slice from the first to the last digit.
 
@@ -120,7 +121,7 @@ slices_found : (text rest : List ℕ) (s : SpelledSpan) (x : SpanView) (next : L
 slices_found text rest s x next h =
     let k = h.spelled in
     let fraction = fraction_found k.fraction_text (s.word ++ (k.whitespace ++ next)) s.fraction x.fraction k.fraction h.fraction in
-    grind (arith, (read_spelled rest next s k), begins_word, fraction, h, (trimmed_is k.number_text x.number h.number), digit_not_whitespace)
+    grind (arith, (read_spelled rest next s k), begins-append, fraction, h, (trimmed_is k.number_text x.number h.number), digit_not_whitespace)
 
 -- Two views of one span are equal, and so are the texts after them.
 one_span : (text rest : List ℕ) (s : SpelledSpan) (x y : SpanView) (m n : List ℕ) (h : IsSpanView text rest s x m) (k : IsSpanView text rest s y n)
@@ -157,7 +158,7 @@ is_span_view text rest f =
     let r = read_spelled rest (next_of rest) (span_of rest) h in
     let starts = begins_take_while is_digit is_numeric rest f.number.digit digit_is_numeric in
     let number = number_is_viewed (take_while is_numeric rest) (take_while-only is_numeric rest) starts in
-    let fraction = fraction_is_viewed h.fraction_text (word_of rest ++ after) (fraction_of rest) h.fraction (begins_word (word_of rest) after (grind arith)) in
+    let fraction = fraction_is_viewed h.fraction_text (word_of rest ++ after) (fraction_of rest) h.fraction (begins-append is_letter (word_of rest) after h.word.1 ∙ grind arith) in
     record {
       spelled = h;
       number = subst (λ (l : List ℕ). IsDigitSlice l (number_slice rest)) r.0 number;
@@ -169,4 +170,4 @@ is_span_view text rest f =
     }
 
 -- What adding a span needs.
-pub ruleset amounts = (digits_kept, digits_trimmed, common_steps)
+pub ruleset amounts = (digits_kept, digits_drop_while, common_steps)

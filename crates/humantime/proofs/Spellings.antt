@@ -44,9 +44,6 @@ abbrev pub IsSpelledAt : List ℕ → SpelledSpan → List ℕ → Type 0
 IsSpelledAt rest s next =
     (begins is_digit rest ≡ true) × (span_of rest ≡ s) × (fraction_of rest ≢ Some []) × (may_follow_span (after_word rest) ≡ true) × (next_of rest ≡ next)
 
-pub begins_word : (w t : List ℕ) → begins is_letter w ≡ true → begins is_letter (w ++ t) ≡ true
-begins_word w t e = grind (arith, begins-append)
-
 fraction_read : (b tail : List ℕ) (o : Option (List ℕ)) → SpellsFraction b o → begins is_letter tail ≡ true
     → (begins is_numeric (b ++ tail) ≡ false) × (option_map number_of (after_point (b ++ tail)) ≡ o) × (unwrap_or (option_map after_number (after_point (b ++ tail))) (b ++ tail) ≡ tail) × (o ≢ Some [])
 unfolding is_letter is_point is_digit
@@ -94,11 +91,9 @@ word_tells : (cs : List ℕ) → Decides (may_be_word cs) ((take_while is_letter
 word_tells cs = grind (arith, common_steps)
 
 -- Neither a digit nor whitespace follows the number and the fraction, so no span ends there without a word.
-no_word_ends : (rest : List ℕ) → word_of rest ≡ [] → after_word rest ≢ [] → may_follow_span (after_word rest) ≡ false
-no_word_ends rest = by (after_fraction rest) (grind (arith, begins-drop_while))
-  where
-    by : (cs : List ℕ) → begins is_numeric cs ≡ false → take_while is_letter cs ≡ [] → drop_while is_letter cs ≢ [] → may_follow_span (drop_while is_letter cs) ≡ false
-    by cs e none more = grind arith
+no_word_ends : (cs : List ℕ) → begins is_numeric cs ≡ false → take_while is_letter cs ≡ [] → drop_while is_letter cs ≢ []
+    → may_follow_span (drop_while is_letter cs) ≡ false
+no_word_ends cs e none more = grind arith
 
 pub some_letters : (word : List ℕ) → IsSome (scale_of_word word) → word ≢ []
 unfolding scale_of_word
@@ -109,7 +104,7 @@ some_letters word h e = grind arith
 -- An error of the table is found by the tests.
 pub stops_at : (text front : List ℕ) (spans : List SpelledSpan) (rest : List ℕ) (e : Fault) → rest ≢ [] → IsStoppedWith text front spans rest e → fault_at text rest ≡ Some e
 unfolding fault_at scale_of_word
-stops_at text front spans rest e some stops = grind (arith, common_steps, nat_tests, (word_tells (after_fraction rest)), (no_word_ends rest), (take_while-drop_while is_letter (after_fraction rest)))
+stops_at text front spans rest e some stops = grind (arith, common_steps, nat_tests, (word_tells (after_fraction rest)), (no_word_ends (after_fraction rest) (grind (arith, begins-drop_while))), (take_while-drop_while is_letter (after_fraction rest)))
 
 -- The tests find no error in a whole span.
 pub fine_goes : (text rest : List ℕ) → BeginsSpan rest → fault_at text rest ≡ None
@@ -123,7 +118,7 @@ unfolding fault_at
 wrong_stops text front spans rest e some first found =
     let bare : may_be_word (after_fraction rest) ≡ true → (word_of rest ≢ []) ⊎ (after_word rest ≡ []) = (word_tells (after_fraction rest)).0 in
     let word : word_of rest ≢ [] → may_be_word (after_fraction rest) ≡ true = λ w. (word_tells (after_fraction rest)).1 (inl w) in
-    grind (arith, bare, word, (no_digits (fraction_of rest)), (no_word_ends rest))
+    grind (arith, bare, word, (no_digits (fraction_of rest)), (no_word_ends (after_fraction rest) (grind (arith, begins-drop_while))))
 
 -- If the tests find no error, the rest begins with a whole span.
 pub is_fine : (text rest : List ℕ) → fault_at text rest ≡ None → BeginsSpan rest

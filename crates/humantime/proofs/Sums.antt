@@ -4,13 +4,15 @@ use Rattle.std.proofs.lemmas.Grind.{common_steps}
 use Rattle.std.proofs.Common.{◌≡◌, ℕ, ◌+◌, ◌/◌, ◌≤◌, true, List, [], ◌∷◌, ◌++◌, Some, None, refl, arith, append_assoc, ◌⊎◌, Option, Result, Ok, Err, map, Bool, ◌&&◌, if◌then◌else◌, option_map, unwrap_or, Decides}
 use Rattle.std.specs.Prelude.{⊤}
 use Rattle.std.proofs.lemmas.List.Sums.{sum_by_push, sum_by-append}
-use Rattle.std.specs.List.{AllByRecursion}
+use Rattle.std.specs.List.{AllByRecursion, list_all}
+use Rattle.std.proofs.lemmas.List.Folds.{list_all-append}
 use Rattle.humantime.specs.Values.{nanos_per_second}
 use Rattle.humantime.specs.Characters.{u64_max}
 use Rattle.humantime.specs.Durations.{Quantity, Nanos, Seconds, quantity_nanos, total, has_room, AllHaveRoom, additions_of, additions, value, Formed, fits, WithinLimits, SpelledSpan}
 use Rattle.humantime.specs.Walks.{add_all, add_span, sum_spans}
 use Rattle.humantime.specs.DurationErrors.{Fault, NumberOverflow}
 use Rattle.humantime.specs.Items.{items_of}
+use Rattle.humantime.proofs.Characters.{all_pass}
 
 -- ==== Additions that do not overflow, one after the other.
 
@@ -49,8 +51,7 @@ room_is_duration xs h = grind (arith, (room_fits 0 xs), (room_tells xs))
 
 -- Tests that each span keeps the limits after a sum of `t` nanoseconds.
 abbrev pub within_from : ℕ → List SpelledSpan → Bool
-within_from t [] = true
-within_from t (s ∷ ss) = fits s && room_from t (additions_of s) && within_from (t + total (additions_of s)) ss
+within_from t ss = list_all fits ss && room_from t (additions ss)
 
 pub value-cons : (s : SpelledSpan) (ss : List SpelledSpan) → value (s ∷ ss) ≡ total (additions_of s) + value ss
 value-cons s ss = sum_by-append quantity_nanos (additions_of s) (additions ss)
@@ -60,15 +61,10 @@ sum_spans-is : (t : ℕ) (ss : List SpelledSpan) (items : List (Result SpelledSp
     → sum_spans t (map Ok ss ++ items) ≡ (if within_from t ss then sum_spans (t + value ss) items else Err NumberOverflow)
 unfolding sum_spans add_span
 sum_spans-is t [] items = grind arith
-sum_spans-is t (s ∷ ss) items = grind (arith, add_all-is, (value-cons s ss), (sum_spans-is (t + total (additions_of s)) ss items))
-
--- Spans keep the limits if and only if each fits and no addition overflows.
-within_from-is : (t : ℕ) (ss : List SpelledSpan) → Decides (within_from t ss) (AllByRecursion (λ s. fits s ≡ true) ss × (room_from t (additions ss) ≡ true))
-within_from-is t [] = grind arith
-within_from-is t (s ∷ ss) = grind (arith, room_from-append, (within_from-is (t + total (additions_of s)) ss))
+sum_spans-is t (s ∷ ss) items = grind (arith, add_all-is, room_from-append, (value-cons s ss), (sum_spans-is (t + total (additions_of s)) ss items))
 
 pub within_tells : (ss : List SpelledSpan) → AllByRecursion Formed ss → Decides (within_from 0 ss) (WithinLimits ss)
-within_tells ss f = grind (arith, (within_from-is 0 ss), (room_tells (additions ss)))
+within_tells ss f = grind (arith, (all_pass fits ss), (room_tells (additions ss)))
 
 pub within_or_beyond : (spans : List SpelledSpan) → AllByRecursion Formed spans → WithinLimits spans ⊎ ¬ (WithinLimits spans)
 within_or_beyond spans f = grind (arith, (within_tells spans f))
@@ -82,8 +78,7 @@ spans_summed spans stop f = grind (arith, (sum_spans-is 0 spans (items_of [] sto
 
 -- The first spans of a list are within the limits if all are.
 pub within_from-front : (t : ℕ) (ss ts : List SpelledSpan) → within_from t (ss ++ ts) ≡ true → within_from t ss ≡ true
-within_from-front t [] ts h = refl
-within_from-front t (s ∷ ss) ts h = grind (arith, (within_from-front (t + total (additions_of s)) ss ts))
+within_from-front t ss ts h = grind (arith, common_steps, room_from-append, list_all-append)
 
 -- ==== Additions that do not overflow if the whole sum is a duration.
 
@@ -99,6 +94,3 @@ room_from_small t (x ∷ xs) small fits = grind (arith, common_steps, (room_from
 -- Small additions do not overflow if their sum is a duration.
 pub small_have_room : (xs : List Quantity) → AllByRecursion IsSmall xs → total xs / nanos_per_second ≤ u64_max → AllHaveRoom xs
 small_have_room xs small fits = (room_tells xs).0 (room_from_small 0 xs small (grind arith))
-
--- What the sum of the spans of a text needs.
-pub ruleset sums = (common_steps, nat_tests)

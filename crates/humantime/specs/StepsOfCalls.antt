@@ -144,14 +144,6 @@ abbrev pub joined_after : List ℕ → List (List ℕ) → List ℕ
 joined_after [] ps = join_with_byte (byte " ") ps
 joined_after (b ∷ bs) ps = join_with_byte (byte " ") ((b ∷ bs) ∷ ps)
 
--- A suffix that stays the same in the plural.
-abbrev pub fixed : List ℕ → Suffix
-fixed unit = (unit, false)
-
--- A suffix that takes an `s` in the plural.
-abbrev pub plural : List ℕ → Suffix
-plural unit = (unit, true)
-
 -- Returns an upper bound for the number of bytes of a count: its digits, its suffix and the `s` of the plural.
 abbrev pub most_bytes : ℕ → Suffix → ℕ
 most_bytes count suffix = length (decimal count) + length suffix.0 + (if suffix.1 then 1 else 0)

@@ -67,10 +67,3 @@ pub record HasDigits (f : Fraction) (ds : List ℕ) : Type 0 where
   pub few : f.exponent ≤ max_fraction_digits
   pub fits : f.significand < 10 ^ f.exponent
 
--- The result, if there is one, has the digits of the fraction and then the digit `c`.
-abbrev pub AppendsIfSome : Fraction → ℕ → Option Fraction → Type 0
-AppendsIfSome f c result = (ds : List ℕ) → HasDigits f ds → IfSome result (λ g. HasDigits g (ds ++ c ∷ []))
-
--- If there is no result, the digit `c` makes more than 19 digits before the trailing zeros, whatever digits follow.
-abbrev pub IsFullIfNone : Fraction → ℕ → Option Fraction → Type 0
-IsFullIfNone f c result = (ds : List ℕ) → HasDigits f ds → IfNone result ((es : List ℕ) → max_fraction_digits < length (without_trailing_zeros (ds ++ c ∷ es)))

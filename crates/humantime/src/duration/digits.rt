@@ -1,7 +1,7 @@
 //! The arithmetic that builds the number of a span and its [`Fraction`] digit by digit.
 
-ghost use Rattle.std.specs.Prelude.{◌≡◌, ℕ, List, true, SomeIff, ◌+◌, ◌-◌, ◌*◌, ◌^◌, ◌≤◌, ◌<◌};
-ghost use Rattle.humantime.specs.Characters.{is_digit, max_fraction_digits, u64_max};
+ghost use Rattle.std.specs.Prelude.{◌≡◌, ℕ, List, [], ◌∷◌, ◌++◌, length, true, IfNone, IfSome, SomeIff, ◌+◌, ◌-◌, ◌*◌, ◌^◌, ◌≤◌, ◌<◌};
+ghost use Rattle.humantime.specs.Characters.{is_digit, max_fraction_digits, u64_max, without_trailing_zeros};
 
 /// The maximum number of digits in a fraction before its trailing zeros. Any number of so many digits fits in a `u64`.
 const MAX_FRACTION_DIGITS: usize = 19;
@@ -60,7 +60,7 @@ pub(crate) fn power_of_ten(exponent: usize) -> u64
 }
 
 impl Fraction {
-    ghost use Rattle.humantime.specs.StepsOfParts.{HasDigits, AppendsIfSome, IsFullIfNone};
+    ghost use Rattle.humantime.specs.StepsOfParts.{HasDigits};
 
     /// Returns the fraction followed by the ASCII digit `c`, or `None` if it then has more than 19 digits before its trailing zeros.
     #[inline(always)]
@@ -69,8 +69,8 @@ impl Fraction {
         requires digit { is_digit c ≡ true }
         requires digits { (ds : List ℕ) × HasDigits self ds }
         requires room { self.len + 1 < 2 ^ 64 }
-        ensures pushed { AppendsIfSome self c result }
-        ensures full { IsFullIfNone self c result }
+        ensures pushed { (ds : List ℕ) → HasDigits self ds → IfSome result (λ f. HasDigits f (ds ++ c ∷ [])) }
+        ensures full { (ds es : List ℕ) → HasDigits self ds → IfNone result (max_fraction_digits < length (without_trailing_zeros (ds ++ c ∷ es))) }
     {
         let len = self.len + 1;
         if c == b'0' {

@@ -25,7 +25,7 @@ use std::fmt;
 /// ```
 #[derive(Clone, Copy, PartialEq, Eq, Debug)]
 pub enum DurationError<'a> {
-    /// The character at this offset is not allowed there, or is a point without a digit after it.
+    /// The character at this offset is not allowed there, or is a decimal point without a digit after it.
     InvalidCharacter(usize),
     /// A number was expected, but the character at this offset is not a digit.
     NumberExpected(usize),

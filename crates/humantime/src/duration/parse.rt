@@ -107,7 +107,7 @@ pub fn spans(s: &str) -> SpanIter<'_>
 
 /// Returns the sum of the spans of a string, or the string's first error.
 #[inline(always)]
-#[tactic(auto, using(crate::proofs::Sums::sums), unfolding(crate::specs::Walks::sum_spans))]
+#[tactic(auto, using(std::proofs::lemmas::Bool::Decides::nat_tests), unfolding(crate::specs::Walks::sum_spans))]
 fn sum_of<'a>(text: &'a str) -> Result<StdDuration, DurationError<'a>>
     ensures value { result_view result ≡ sum_spans 0 (map span_in (item_views (chars text.now))) }
     ensures place { IfErr result (PointsInto text.now) }
@@ -144,8 +144,8 @@ fn sum_of<'a>(text: &'a str) -> Result<StdDuration, DurationError<'a>>
 /// - [`Empty`](DurationError::Empty): the string is empty or contains only whitespace.
 /// - [`NumberExpected`](DurationError::NumberExpected): the first character after leading whitespace, or after a span and whitespace, is not
 ///   a digit.
-/// - [`InvalidCharacter`](DurationError::InvalidCharacter): a span has a character that is not allowed there, or a point
-///   without a digit after it.
+/// - [`InvalidCharacter`](DurationError::InvalidCharacter): a span has a character that is not allowed there, or a decimal
+///   point without a digit after it.
 /// - [`UnknownUnit`](DurationError::UnknownUnit): the letters after a number (ASCII, `µ` or `μ`) are not a unit, or the string ends
 ///   without one. The error borrows the unit from `s`.
 /// - [`NumberOverflow`](DurationError::NumberOverflow): a number, a number times the size of its unit, the digits of a fraction times

@@ -1,7 +1,7 @@
 //! Prints durations: [`format_duration`], [`FormattedDuration`] and [`canonical`].
 
 ghost use Rattle.std.specs.Prelude.{◌≡◌, ◌<◌, ◌≤◌, ◌+◌, ◌==◌, if◌then◌else◌, codes, [], ◌∷◌, length, take, decimal, ◌↔◌, ℕ, List, chars};
-ghost use Rattle.std.specs.Prelude.{IfOk, IfErr, OnErr, Ok, Some};
+ghost use Rattle.std.specs.Prelude.{IfOk, IfErr, OnErr, Ok, Some, true, false};
 ghost use Rattle.std.specs.Str.{IsUtf8};
 ghost use Rattle.std.proofs.Props.{props};
 ghost use Rattle.std.specs.Borrow.{sem};
@@ -29,7 +29,7 @@ struct Writer<'b> {
 }
 
 impl<'b> Writer<'b> {
-    ghost use Rattle.humantime.specs.StepsOfCalls.{fixed, plural, most_bytes, written, Appends, AppendsCount, HasWritten};
+    ghost use Rattle.humantime.specs.StepsOfCalls.{most_bytes, written, Appends, AppendsCount, HasWritten};
 
     /// Creates a writer to `bytes` that has written nothing yet.
     #[inline(always)]
@@ -73,8 +73,8 @@ impl<'b> Writer<'b> {
     /// Appends a count and its unit, preceded by a space unless nothing has been written yet. A count of zero is left out.
     #[inline(always)]
     pub(crate) fn push_count(&mut self, count: u64, unit: &str)
-        requires fits { self.old.end + 1 + most_bytes count (fixed unit.now) ≤ length self.old.bytes.now }
-        ensures { AppendsCount self.old self.new count (fixed unit.now) }
+        requires fits { self.old.end + 1 + most_bytes count (unit.now, false) ≤ length self.old.bytes.now }
+        ensures { AppendsCount self.old self.new count (unit.now, false) }
     {
         if count == 0 {
             return;
@@ -89,8 +89,8 @@ impl<'b> Writer<'b> {
     /// Appends a count and its unit as `push_count` does, with an `s` after the unit if the count is above 1.
     #[inline(always)]
     pub(crate) fn push_plural(&mut self, count: u64, unit: &str)
-        requires fits { self.old.end + 1 + most_bytes count (plural unit.now) ≤ length self.old.bytes.now }
-        ensures { AppendsCount self.old self.new count (plural unit.now) }
+        requires fits { self.old.end + 1 + most_bytes count (unit.now, true) ≤ length self.old.bytes.now }
+        ensures { AppendsCount self.old self.new count (unit.now, true) }
     {
         self.push_count(count, unit);
         if count > 1 {
@@ -219,7 +219,7 @@ impl FormattedDuration {
 ///
 /// This is a single function and is not inlined, so that the writer stays in registers.
 #[inline(never)]
-#[tactic(auto, using(crate::proofs::Counts::counts_written))]
+#[tactic(auto, using(crate::proofs::Counts::written_is_text, crate::proofs::Counts::decimal_short))]
 fn write_duration(duration: StdDuration, buf: &mut [u8; 64]) -> usize
     ensures fits { result ≤ 64 }
     ensures text { take result buf.new ≡ duration_text duration }

@@ -31,6 +31,7 @@ fn is_mu(first: u8, second: u8) -> bool
 /// It is cold and not inlined, so that loops over ASCII keep their variables in registers.
 #[cold]
 #[inline(never)]
+#[tactic(auto, using(crate::proofs::Offsets::chars_at, crate::proofs::Characters::whitespace_is))]
 fn skip_non_ascii_whitespace(text: &str, at: usize) -> Option<usize>
     requires { IsCharStartIn text.now at }
     ensures { IsAfterWhitespace text.now at result }

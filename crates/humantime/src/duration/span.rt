@@ -83,6 +83,7 @@ impl<'a> Span<'a> {
     /// assert_eq!(rt; items.next().ok_or("no span")??.fraction(), Some("5 0"));
     /// assert_eq!(rt; items.next().ok_or("no span")??.fraction(), None);
     /// ```
+    #[tactic(auto, using(crate::proofs::Slices::slice_trimmed))]
     pub fn fraction(&self) -> Option<&'a str>
         ensures { option_map (λ t. chars t.now) result ≡ (span_view self.now).fraction }
     {

@@ -1,16 +1,17 @@
 use Rattle.std.proofs.lemmas.Bool.Decides.{nat_tests}
 use Rattle.std.proofs.lemmas.Grind.{common_steps}
+use Rattle.std.proofs.lemmas.Str.{IsCharBoundary-start}
 use Rattle.std.proofs.Common.{◌≡◌, ◌+◌, ◌++◌, ◌∷◌, [], get_or, chars, drop, false, arith, length-append, append-nil, append_assoc}
 use Rattle.humantime.specs.Characters.{begins, is_numeric, without_trailing_zeros}
 use Rattle.humantime.specs.DurationErrors.{number_of}
 use Rattle.humantime.proofs.SpanParts.{read_digit, read_whitespace, stops_here}
-use Rattle.humantime.proofs.Offsets.{front_is, no_chars_at, starts}
+use Rattle.humantime.proofs.Offsets.{front_is, no_chars_at}
 use Rattle.humantime.proofs.duration.scan.read_fraction.Goals as goal
 use Rattle.humantime.proofs.duration.scan.read_fraction.Goals.{else-loop-at-test, then-loop-at-test+else-is_ascii_digit+in_default}
 
 pub loop-at-init : goal.loop-at-init
 unfolding without_trailing_zeros
-loop-at-init c = record { taken = []; read = grind (arith, starts); digits = record { parts = grind arith; few = grind arith; fits = grind arith }; few = omega arith }
+loop-at-init c = record { taken = []; read = grind (arith, IsCharBoundary-start); digits = record { parts = grind arith; few = grind arith; fits = grind arith }; few = omega arith }
 
 pub loop-at-preserved-then-is_ascii_digit : goal.loop-at-preserved-then-is_ascii_digit
 loop-at-preserved-then-is_ascii_digit c =
@@ -30,7 +31,7 @@ loop-at-preserved c =
 pub returns-in_err-fraction-clause-read : goal.returns-in_err-fraction-clause-read
 returns-in_err-fraction-clause-read c =
     let i = c.loop-at.invariant in
-    let over = c.in_err-fraction.ensures.full i.taken i.digits (number_of (chars (drop (c.loop-at.at + 1) c.args.text.now))) in
+    let over = c.in_err-fraction.ensures.full i.taken (number_of (chars (drop (c.loop-at.at + 1) c.args.text.now))) i.digits in
     grind (arith, nat_tests, (read_digit c.args.text.now c.loop-at.at c.utf8.text), i.read, over)
 
 pub returns-clause-read : goal.returns-clause-read

@@ -1,16 +1,16 @@
 use Rattle.std.proofs.lemmas.Bool.Decides.{nat_tests}
 use Rattle.std.proofs.lemmas.Grind.{common_steps}
-use Rattle.std.proofs.lemmas.Str.{digit_value_digit}
+use Rattle.std.proofs.lemmas.Str.{digit_value_digit, IsCharBoundary-start}
 use Rattle.std.proofs.Common.{◌≡◌, chars, drop, false, arith}
 use Rattle.humantime.specs.Characters.{begins, is_numeric}
 use Rattle.humantime.proofs.Characters.{digit_is}
 use Rattle.humantime.proofs.SpanParts.{first_digit, digit_range, read_digit, read_whitespace, stops_here, value_grows}
-use Rattle.humantime.proofs.Offsets.{front_is, no_chars_at, starts}
+use Rattle.humantime.proofs.Offsets.{front_is, no_chars_at}
 use Rattle.humantime.proofs.duration.scan.read_number.Goals as goal
 use Rattle.humantime.proofs.duration.scan.read_number.Goals.{else-loop-at-test, then-loop-at-test+else-is_ascii_digit+in_default}
 
 pub loop-at-init : goal.loop-at-init
-loop-at-init c = grind (arith, nat_tests, starts, first_digit, (read_digit c.args.text.now 0 c.utf8.text), digit_value_digit, digit_range, digit_is)
+loop-at-init c = grind (arith, nat_tests, IsCharBoundary-start, first_digit, (read_digit c.args.text.now 0 c.utf8.text), digit_value_digit, digit_range, digit_is)
 
 pub loop-at-preserved-then-is_ascii_digit : goal.loop-at-preserved-then-is_ascii_digit
 loop-at-preserved-then-is_ascii_digit c =
