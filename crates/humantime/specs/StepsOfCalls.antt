@@ -87,10 +87,6 @@ pub record IsNumberAt (rest : List ℕ) (number : Number) (after : List ℕ) : T
 
 -- ==== Quantities added to a duration of `t` nanoseconds. `None` means that a limit is broken.
 
--- Returns the sum of `t` and `count` times a quantity, or `None` on overflow.
-abbrev pub add_times : ℕ → Quantity → ℕ → Option ℕ
-add_times t x count = if fits_u64 (count * size x) then add t (times count x) else None
-
 -- Returns the sum of `t` and `number / 10^count` of a quantity, or `None` if that is not a whole number or on overflow. If the unit has no
 -- fractions, there must be no digits.
 abbrev pub add_part : ℕ → Option Quantity → ℕ → ℕ → Option ℕ

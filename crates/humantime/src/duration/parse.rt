@@ -1,10 +1,10 @@
 //! Parses whole strings: [`parse_duration`] adds up what [`spans`] yields.
 
-ghost use Rattle.std.specs.Prelude.{◌≡◌, ◌≤◌, ◌*◌, ◌/◌, ◌^◌, IsTrue, SomeIff, chars, map, IfErr};
+ghost use Rattle.std.specs.Prelude.{◌≡◌, ◌≤◌, ◌*◌, ◌/◌, ◌^◌, if◌then◌else◌, IsTrue, None, SomeIff, chars, map, IfErr};
 ghost use Rattle.humantime.specs.Characters.{max_fraction_digits, u64_max};
-ghost use Rattle.humantime.specs.Durations.{is_whole_part};
+ghost use Rattle.humantime.specs.Durations.{fits_u64, is_whole_part, size, times};
 ghost use Rattle.humantime.specs.StepsOfCalls as steps;
-ghost use Rattle.humantime.specs.Walks.{add_span, sum_spans};
+ghost use Rattle.humantime.specs.Walks.{add, add_span, sum_spans};
 ghost use Rattle.humantime.specs.Prelude.{AreItems, IsDurationAnswer, PointsInto, items_left, result_view, text_of};
 ghost use Rattle.humantime.specs.DurationResults.{item_views, span_in};
 
@@ -18,7 +18,7 @@ use crate::value::StdDuration;
 /// Returns `sum` plus `count` times `one`, or `None` on overflow.
 #[inline(always)]
 fn add_times(sum: StdDuration, one: Quantity, count: u64) -> Option<StdDuration>
-    ensures { result ≡ steps.add_times sum one count }
+    ensures { result ≡ (if fits_u64 (count * size one) then add sum (times count one) else None) }
 {
     match one {
         Quantity::Nanos(size) => sum.checked_add_nanos(count.checked_mul(size)?),
