@@ -78,7 +78,7 @@ begins_take_while p q cs h k = grind arith
 -- A prefix that passes the test, followed by a text that does not begin with such a character.
 pub take_while-append : (p : ℕ → Bool) (xs ys : List ℕ) → HasOnly p xs → begins p ys ≡ false → take_while p (xs ++ ys) ≡ xs
 take_while-append p [] ys h e = grind arith
-take_while-append p (x ∷ xs) ys h e = rw (h.0) (ap (λ (l : List ℕ). x ∷ l) (take_while-append p xs ys h.1 e))
+take_while-append p (x ∷ xs) ys h e = grind (arith, (take_while-append p xs ys h.1 e))
 
 pub drop_while-append : (p : ℕ → Bool) (xs ys : List ℕ) → HasOnly p xs → begins p ys ≡ false → drop_while p (xs ++ ys) ≡ ys
 drop_while-append p [] ys h e = grind arith

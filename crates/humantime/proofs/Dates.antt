@@ -102,14 +102,11 @@ pub before_month : (y m d : ℕ) → AreWithin y m d → (later : ℕ) → m < l
 unfolding days_of_months
 before_month y m d valid later less = grind (arith, (months_grow y m (later - 1)))
 
-pub before_year : (y m d : ℕ) → AreWithin y m d → (later : ℕ) → y < later → days_of_years (y - 1970) + days_of_months y (m - 1) + (d - 1) < days_of_years (later - 1970)
-before_year y m d valid later less =
-    grind (arith, (before_month y m d valid 13), (days_of_months_closed y 13), days_of_years_closed, (march_days_next y))
-
--- The same of a date that exists.
 pub before_later : (d : Date) → IsDate d → ((later : ℕ) → d.year < later → day_of d < days_of_years (later - 1970))
     × ((later : ℕ) → d.month < later → days_of_months d.year (d.month - 1) + (d.day - 1) < days_of_months d.year (later - 1))
-before_later d valid = let within = valid_from_test d.year d.month d.day valid in (before_year d.year d.month d.day within, before_month d.year d.month d.day within)
+before_later d valid =
+    let months = before_month d.year d.month d.day (valid_from_test d.year d.month d.day valid) in
+    ((λ later less. grind (arith, (months 13), (valid_from_test d.year d.month d.day valid), (days_of_months_closed d.year 13), days_of_years_closed, (march_days_next d.year))), months)
 
 pub one_date : (day : ℕ) → day ≤ 2_932_896 → ExactlyOne (IsDateOfDay day)
 one_date day few =
@@ -118,4 +115,4 @@ one_date day few =
 
 -- No date has a later day than the last one.
 pub day_at_most : (d : Date) → IsDate d → day_of d ≤ 2_932_896
-day_at_most d valid = grind (arith, (before_year d.year d.month d.day (valid_from_test d.year d.month d.day valid) 10_000), (days_of_years_closed 10_000))
+day_at_most d valid = grind (arith, (valid_from_test d.year d.month d.day valid), ((before_later d valid).0 10_000), (days_of_years_closed 10_000))

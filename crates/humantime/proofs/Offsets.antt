@@ -32,20 +32,13 @@ char_at text at u here = by (chars (drop at text)) (encodes-chars (drop at text)
     by (c ∷ cs) e =
         let rest = drop at text in
         let utf8 = IsUtf8-drop text at u here.1 in
-        let some : 0 < length rest = omega (arith, length-drop at text, here.0) in
         let behind : drop (at + len_utf8 c) text ≡ encode_utf8_all cs = drop_past_char text (encode_utf8_all cs) at c (sym e) in
         let bytes : rest ≡ encode_utf8 c ++ drop (at + len_utf8 c) text = sym e ∙ ap (λ (x : List ℕ). encode_utf8 c ++ x) (sym behind) in
-        let first : get_or rest 0 0 ≡ get_or text at 0 = get_or-drop at text 0 0 ∙ ap (λ (k : ℕ). get_or text k 0) (omega arith) in (
-          c,
-          record {
-            bytes = bytes;
-            ahead = chars_past_char rest (drop (at + len_utf8 c) text) c utf8 bytes;
-            place = IsCharBoundary-past_char text (encode_utf8_all cs) at c (omega (arith, here.0)) utf8 (sym e);
-            long = refl;
-            ascii = λ small. char_from_byte rest (encode_utf8_all cs) c (sym e) (omega (arith, first, small)) some ∙ first;
-            wide = λ large. grind (arith, (cases_lt c 128), (byte_from_char rest (encode_utf8_all cs) c (sym e)), first, large, some);
-          },
-        )
+        let ahead = chars_past_char rest (drop (at + len_utf8 c) text) c utf8 bytes in
+        let place = IsCharBoundary-past_char text (encode_utf8_all cs) at c (omega (arith, here.0)) utf8 (sym e) in
+        let from_byte = char_from_byte rest (encode_utf8_all cs) c (sym e) in
+        let from_char = byte_from_char rest (encode_utf8_all cs) c (sym e) in
+        (c, grind (arith, bytes, ahead, place, from_byte, from_char, (cases_lt c 128), (get_or-drop at text 0 0), (length-drop at text)))
 
 -- There is a character at an offset at which one begins.
 pub chars_at : (text : List ℕ) (at : ℕ) → IsUtf8 text → IsCharStartIn text at
@@ -105,9 +98,8 @@ whitespace_ends text at u some white n =
 -- A space ends a span, and is one byte.
 pub space_ends : (text : List ℕ) → IsUtf8 text → 0 < length text → get_or text 0 0 ≡ 32
     → IsCharBoundary text 1 × (may_follow_span (chars text) ≡ true) × (chars (drop 1 text) ≡ after_space (chars text))
-unfolding is_whitespace whitespace_chars
 space_ends text u some e =
-    grind (arith, whitespace_is_numeric, (ascii_at text 0 u (some, IsCharBoundary-start text u)))
+    grind (arith, ascii_whitespace, whitespace_is_numeric, (ascii_at text 0 u (some, IsCharBoundary-start text u)))
 
 -- ==== The end parts of a text, as bytes.
 

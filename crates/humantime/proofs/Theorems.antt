@@ -63,6 +63,9 @@ printed_duration_reads d fits =
     let one : ExactlyOne (IsCanonicalText d) = (duration_text d, printed_is_canon d, canon_is_text d) in
     search (rules, one, (canonical.canon_reads d (omega arith)), outcome_accepted)
 
+pub text_reads : (d : ℕ) → d < duration_end → duration_answer (chars (duration_text d)) ≡ Ok d
+text_reads d fits = (printed_duration_reads d fits).answer
+
 pub printed_durations_differ : (a b : ℕ) → a < duration_end → b < duration_end → TextsTellApart a b
 printed_durations_differ a b fits_a fits_b =
     search (rules, (canonical.texts_tell_apart a b (omega arith) (omega arith)), printed_is_canon)
