@@ -1,5 +1,5 @@
 -- Classes of characters, the longest runs of a class, and the value of digits.
-use Rattle.std.proofs.Common.{◌≡◌, ◌≤◌, ◌<◌, ℕ, true, false, refl, sym, ◌∙◌, arith, ◌≢◌, Bool, List, [], ◌∷◌, ◌++◌, length, ap, inl, inr, length-append, ◌+◌, ◌*◌, ◌/◌, ◌%◌, ◌^◌, append_assoc, reverse, ◌&&◌, ◌||◌, ◌==◌, nat_le, Decides, pow-add}
+use Rattle.std.proofs.Common.{◌≡◌, ◌≤◌, ◌<◌, ℕ, true, false, refl, arith, ◌≢◌, Bool, List, [], ◌∷◌, ◌++◌, length, ap, inl, inr, length-append, ◌+◌, ◌*◌, ◌/◌, ◌%◌, ◌^◌, append_assoc, reverse, ◌&&◌, ◌||◌, ◌==◌, nat_le, Decides, pow-add}
 use Rattle.std.specs.Char.{is_whitespace as std_is_whitespace, is_ascii_digit, digit_value}
 use Rattle.std.proofs.lemmas.Bool.{agree_below_at, or_left, or_right, cases_Bool}
 use Rattle.std.proofs.lemmas.Bool.Decides.{nat_tests}

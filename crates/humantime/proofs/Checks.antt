@@ -1,7 +1,7 @@
 -- The layout of a timestamp, tested on all bytes at once.
 use Rattle.humantime.specs.TimestampResults.{weak_answer}
 use Rattle.std.proofs.Common.{◌≡◌, ℕ, ◌≤◌, List, [], ◌∷◌, length, get_or, drop, refl, arith, ◌+◌, ◌-◌, ◌%◌, ◌^◌, ◌<◌, Bool, cond, eqb, ltb, ◌&&◌, map, replicate, take, Fits, w8, ap, ◌∙◌, ◌*◌, T}
-use Rattle.std.specs.Prelude.{true, false, slice_index, Option, Some, None, ◌==◌, if◌then◌else◌, codes, nat_eq, bit_or, ⊤}
+use Rattle.std.specs.Prelude.{true, slice_index, Option, Some, None, ◌==◌, if◌then◌else◌, codes, nat_eq, bit_or, ⊤}
 use Rattle.std.specs.Str.{byte, all_ascii_digits}
 use Rattle.std.proofs.lemmas.Bool.{and_parts, le-leb, agree_below_at}
 use Rattle.std.proofs.lemmas.Grind.{common_steps}

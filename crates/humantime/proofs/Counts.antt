@@ -41,10 +41,7 @@ joined_more : (t p : List ℕ) (ps : List (List ℕ)) → 0 < length p → joine
 joined_more t p ps h = grind (arith, append_assoc)
 
 -- Each suffix has a letter.
-abbrev Lettered : List Suffix → Type 0
-Lettered ss = AllByRecursion (λ s. 0 < length s.0) ss
-
-one_by_one : (t ns : List ℕ) (ss : List Suffix) → Lettered ss → with_counts t ns ss ≡ joined_after t (printed_counts ns ss)
+one_by_one : (t ns : List ℕ) (ss : List Suffix) → AllByRecursion (λ s. 0 < length s.0) ss → with_counts t ns ss ≡ joined_after t (printed_counts ns ss)
 one_by_one t (n ∷ ns) (s ∷ ss) h =
     grind (arith, joined_more, length-append, (one_by_one (joined_after t (printed_count n s ∷ [])) ns ss h.1), (one_by_one t ns ss h.1))
 one_by_one t _ _ h = grind arith
@@ -53,7 +50,8 @@ one_by_one t _ _ h = grind arith
 abbrev pub or_zero : List ℕ → List ℕ
 or_zero text = if length text == 0 then codes "0s" else text
 
-or_zero_joined : (ns : List ℕ) (ss : List Suffix) → Lettered ss → or_zero (joined_after [] (printed_counts ns ss)) ≡ joined_by_space (printed_counts ns ss)
+or_zero_joined : (ns : List ℕ) (ss : List Suffix) → AllByRecursion (λ s. 0 < length s.0) ss
+    → or_zero (joined_after [] (printed_counts ns ss)) ≡ joined_by_space (printed_counts ns ss)
 or_zero_joined (n ∷ ns) (s ∷ ss) h = grind (arith, common_steps, nat_tests, length-append, (or_zero_joined ns ss h.1))
 or_zero_joined _ _ h = refl
 

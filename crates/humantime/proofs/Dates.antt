@@ -1,5 +1,5 @@
 -- Each day has exactly one date, which is computed without a loop over years.
-use Rattle.std.proofs.Common.{◌≡◌, ℕ, zero, suc, ◌+◌, ◌-◌, ◌*◌, ◌<◌, ◌≤◌, refl, arith, IsTrue, inl, inr, ◌∙◌, sym, nat_lt, if◌then◌else◌, [], ◌∷◌, slice_index_or, min}
+use Rattle.std.proofs.Common.{◌≡◌, ℕ, zero, suc, ◌+◌, ◌-◌, ◌*◌, ◌<◌, ◌≤◌, refl, arith, IsTrue, inl, inr, nat_lt, if◌then◌else◌, [], ◌∷◌, slice_index_or, min}
 use Rattle.std.specs.Int.{IsInRange}
 use Rattle.std.proofs.lemmas.Bool.Decides.{nat_tests}
 use Rattle.std.proofs.lemmas.Grind.{common_steps}
@@ -12,10 +12,7 @@ use Rattle.humantime.specs.Laws.{IsDateOfDay, ExactlyOne}
 -- ==== The days of years and of months in closed form, and the ranges of the fields of a date.
 
 -- The ranges of the fields of a date that exists.
-abbrev pub AreWithin : ℕ → ℕ → ℕ → Type 0
-AreWithin y m d = IsInRange 1970 9999 y × IsInRange 1 12 m × IsInRange 1 (days_in_month y m) d
-
-pub valid_from_test : (y m d : ℕ) → IsTrue (is_valid y m d) → AreWithin y m d
+pub valid_from_test : (y m d : ℕ) → IsTrue (is_valid y m d) → IsInRange 1970 9999 y × IsInRange 1 12 m × IsInRange 1 (days_in_month y m) d
 valid_from_test y m d valid = grind (arith, nat_tests)
 
 pub days_in_year_bound : (y : ℕ) → days_in_year y ≤ 366
@@ -98,15 +95,17 @@ months_grow y m zero few = grind arith
 months_grow y m (suc n) few = grind (arith, (months_grow y m n), (cases_eq m (suc n)))
 
 -- The day of a date is before the days of each later month and year.
-pub before_month : (y m d : ℕ) → AreWithin y m d → (later : ℕ) → m < later → days_of_months y (m - 1) + (d - 1) < days_of_months y (later - 1)
+before_month : (y m d : ℕ) → IsInRange 1 12 m → IsInRange 1 (days_in_month y m) d → (later : ℕ) → m < later
+    → days_of_months y (m - 1) + (d - 1) < days_of_months y (later - 1)
 unfolding days_of_months
-before_month y m d valid later less = grind (arith, (months_grow y m (later - 1)))
+before_month y m d month day later less = grind (arith, (months_grow y m (later - 1)))
 
 pub before_later : (d : Date) → IsDate d → ((later : ℕ) → d.year < later → day_of d < days_of_years (later - 1970))
     × ((later : ℕ) → d.month < later → days_of_months d.year (d.month - 1) + (d.day - 1) < days_of_months d.year (later - 1))
 before_later d valid =
-    let months = before_month d.year d.month d.day (valid_from_test d.year d.month d.day valid) in
-    ((λ later less. grind (arith, (months 13), (valid_from_test d.year d.month d.day valid), (days_of_months_closed d.year 13), days_of_years_closed, (march_days_next d.year))), months)
+    let within = valid_from_test d.year d.month d.day valid in
+    let months = before_month d.year d.month d.day within.1 within.2 in
+    ((λ later less. grind (arith, within, (months 13), (days_of_months_closed d.year 13), days_of_years_closed, (march_days_next d.year))), months)
 
 pub one_date : (day : ℕ) → day ≤ 2_932_896 → ExactlyOne (IsDateOfDay day)
 one_date day few =

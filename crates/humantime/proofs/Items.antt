@@ -11,7 +11,7 @@ use Rattle.std.proofs.lemmas.List.Folds.{list_all-append}
 use Rattle.std.proofs.lemmas.Bool.{and_parts}
 use Rattle.humantime.specs.Characters.{drop_while, take_while, is_whitespace, bare_zero, byte_length, is_point}
 use Rattle.humantime.specs.DurationErrors.{span_of, Empty, Fault, after_word}
-use Rattle.humantime.specs.Walks.{Walk, walk, walk_of, items, sum_spans, fault_at}
+use Rattle.humantime.specs.Walks.{walk, walk_of, items, sum_spans, fault_at}
 use Rattle.humantime.specs.DurationResults.{duration_answer, view_at, item_views, span_in, left_at}
 use Rattle.humantime.specs.Items.{SpanView, AreSpanViews, items_of, AreItems, IsDigitSlice, IsFractionView, IsSpanView}
 use Rattle.humantime.specs.StepsOfCalls.{after_space, read_span}

@@ -8,7 +8,7 @@ use Rattle.std.proofs.lemmas.Bool.Decides.{nat_tests}
 use Rattle.std.proofs.lemmas.List.{get_or-drop, take-append-drop, drop-drop, append_cancel_right}
 use Rattle.std.proofs.lemmas.Str.{IsUtf8-drop, IsCharBoundary-past_char, drop_past_char, chars_past_char, byte_from_char, char_from_byte, len_utf8_ascii, len_utf8_bounds, encodes-chars, encode_same, IsCharBoundary-start, IsUtf8-take, IsCharBoundary-from_drop, chars-append, chars-nil}
 use Rattle.humantime.specs.DurationErrors.{IsCharStartIn, IsRangeIn, IsPartOf, may_follow_span}
-use Rattle.humantime.specs.Characters.{begins, drop_while, take_while, is_letter, is_whitespace, whitespace_chars, is_digit, byte_length, offset_of}
+use Rattle.humantime.specs.Characters.{begins, drop_while, take_while, is_letter, is_whitespace, is_digit, byte_length, offset_of}
 use Rattle.humantime.specs.StepsOfCalls.{after_space}
 use Rattle.humantime.specs.StepsOfParts.{whitespace_len, IsTail}
 use Rattle.humantime.proofs.Characters.{ascii_whitespace, digit_not_whitespace, letter_not_whitespace, whitespace_is_numeric, take_while-drop_while}

@@ -1,5 +1,4 @@
 -- The sum of spans, and whether it is within the limits.
-use Rattle.std.proofs.lemmas.Bool.Decides.{nat_tests}
 use Rattle.std.proofs.lemmas.Grind.{common_steps}
 use Rattle.std.proofs.Common.{◌≡◌, ℕ, ◌+◌, ◌/◌, ◌≤◌, true, List, [], ◌∷◌, ◌++◌, Some, None, refl, arith, append_assoc, ◌⊎◌, Option, Result, Ok, Err, map, Bool, ◌&&◌, if◌then◌else◌, option_map, unwrap_or, Decides}
 use Rattle.std.specs.Prelude.{⊤}

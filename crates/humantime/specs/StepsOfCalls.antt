@@ -4,18 +4,17 @@ use Rattle.std.specs.Borrow.{Bor}
 use Rattle.std.specs.Result.{result_map_both}
 use Rattle.std.specs.Str.{all_ascii_digits, byte}
 use Rattle.std.specs.List.{join_with_byte}
-use Rattle.humantime.specs.declared.duration.digits.Fraction.{Fraction}
 use Rattle.humantime.specs.declared.duration.error.DurationError.{DurationError}
 use Rattle.humantime.specs.declared.duration.span.Number.{Number}
 use Rattle.humantime.specs.declared.duration.span.Span.{Span}
 use Rattle.humantime.specs.Characters.{begins, take_while, decimal_value, is_digit, is_numeric, is_whitespace, u64_max}
-use Rattle.humantime.specs.Durations.{SpelledSpan, has_too_many_digits, too_long, Quantity, size, of_kind, times, fits_u64, is_whole_part}
+use Rattle.humantime.specs.Durations.{SpelledSpan, has_too_many_digits, too_long, Quantity, size, of_kind, is_whole_part}
 use Rattle.humantime.specs.DurationErrors.{fault_of, number_of, after_number, after_point, after_fraction, after_word, span_of, may_follow_span, Fault}
 use Rattle.humantime.specs.Items.{SpanView}
 use Rattle.humantime.specs.DurationResults.{spelled, view_at}
 use Rattle.humantime.specs.SpanResults.{span_view}
 use Rattle.humantime.specs.Walks.{fault_at, has_bare_point, add}
-use Rattle.humantime.specs.StepsOfParts.{Counted, counted, parts_of, IsTail}
+use Rattle.humantime.specs.StepsOfParts.{Counted, counted, IsTail}
 use Rattle.humantime.specs.declared.calendar.Date.{Date}
 use Rattle.humantime.specs.declared.date.error.TimestampError.{TimestampError}
 use Rattle.humantime.specs.declared.date.error.TimestampError.TheVariants.{InvalidDigit, InvalidFormat}
@@ -35,10 +34,6 @@ read_view view r = option_map (λ x. (view x.0, chars x.1.now)) r
 -- The text of a number, and that of its fraction, if any.
 abbrev pub number_view : Number → List ℕ × Option (List ℕ)
 number_view n = (chars n.text.now, option_map (λ f. chars f.1.now) n.fraction)
-
--- The three numbers of a fraction, and its text.
-abbrev pub fraction_view : Fraction × Bor (List ℕ) → Counted × List ℕ
-fraction_view f = (parts_of f.0, chars f.1.now)
 
 -- Reads the number at the start of a text. A number that does not fit in a `u64` is too long.
 abbrev pub read_number : List ℕ → Option ((List ℕ × Option (List ℕ)) × List ℕ)

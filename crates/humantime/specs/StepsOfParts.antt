@@ -1,5 +1,5 @@
 -- Steps of the parser of durations: whitespace, digits, and what a span keeps of its text.
-use Rattle.std.specs.Prelude.{◌≡◌, ℕ, List, length, Option, option_map, chars, bytes_eq, ltb, not, filter, ◌≤◌, ◌<◌, ◌^◌, ◌-◌, ◌++◌, [], ◌∷◌, IfSome, IfNone, SomeIff, ◌+◌, drop, if◌then◌else◌, IsUtf8}
+use Rattle.std.specs.Prelude.{◌≡◌, ℕ, List, length, Option, option_map, chars, bytes_eq, ltb, not, filter, ◌≤◌, ◌<◌, ◌^◌, ◌-◌, [], ◌∷◌, SomeIff, ◌+◌, drop, if◌then◌else◌, IsUtf8}
 use Rattle.std.specs.Borrow.{Bor}
 use Rattle.std.specs.Map.{lookup}
 use Rattle.std.specs.Char.{len_utf8}

@@ -8,8 +8,8 @@ ghost use Rattle.std.specs.Prelude.{IfOk, MatchResult, length};
 ghost use Rattle.humantime.specs.Characters.{begins, drop_while, is_digit, is_letter, is_whitespace, offset_of, take_while};
 ghost use Rattle.humantime.specs.DurationErrors.{IsCharStartIn, after_point, IsRangeIn, PointsInto};
 ghost use Rattle.humantime.specs.StepsOfCalls as reader;
-ghost use Rattle.humantime.specs.StepsOfCalls.{IsNumberAt, fraction_view, number_view, read_view, span_result};
-ghost use Rattle.humantime.specs.StepsOfParts.{IsAfterWhitespace, IsTail};
+ghost use Rattle.humantime.specs.StepsOfCalls.{IsNumberAt, number_view, read_view, span_result};
+ghost use Rattle.humantime.specs.StepsOfParts.{IsAfterWhitespace, IsTail, parts_of};
 ghost use Rattle.humantime.specs.Walks.{may_be_word};
 
 use crate::duration::digits::{Fraction, push_digit};
@@ -145,7 +145,7 @@ pub(crate) fn skip_point(text: &str) -> Option<&str>
 #[inline(always)]
 #[tactic(auto, using(crate::proofs::Offsets::rests, crate::proofs::Characters::digit_is))]
 pub(crate) fn read_fraction(text: &str) -> Option<((Fraction, &str), &str)>
-    ensures read { read_view fraction_view result ≡ reader.read_fraction (chars text.now) }
+    ensures read { read_view (λ f. (parts_of f.0, chars f.1.now)) result ≡ reader.read_fraction (chars text.now) }
     ensures rest { IfSome result (λ x. IsTail text.now x.1.now) }
 {
     let bytes = text.as_bytes();
