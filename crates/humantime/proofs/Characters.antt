@@ -46,8 +46,6 @@ digit_is_numeric c = or_left (is_digit c) (is_whitespace c)
 pub whitespace_is_numeric : (c : ℕ) → is_whitespace c ≡ true → is_numeric c ≡ true
 whitespace_is_numeric c = or_right (is_digit c) (is_whitespace c)
 
--- ---- by bytes
-
 -- Digits are ASCII.
 pub digit_is : (c : ℕ) → is_ascii_digit c ≡ is_digit c
 unfolding is_digit

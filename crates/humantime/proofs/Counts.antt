@@ -41,7 +41,8 @@ joined_more : (t p : List ℕ) (ps : List (List ℕ)) → 0 < length p → joine
 joined_more t p ps h = grind (arith, append_assoc)
 
 -- Counts that are written one by one are joined, if each suffix has a letter.
-one_by_one : (t ns : List ℕ) (ss : List Suffix) → AllByRecursion (λ s. 0 < length s.0) ss → with_counts t ns ss ≡ joined_after t (printed_counts ns ss)
+one_by_one : (t ns : List ℕ) (ss : List Suffix) → AllByRecursion (λ s. 0 < length s.0) ss
+    → with_counts t ns ss ≡ joined_after t (printed_counts ns ss)
 one_by_one t (n ∷ ns) (s ∷ ss) h =
     grind (arith, joined_more, length-append, (one_by_one (joined_after t (printed_count n s ∷ [])) ns ss h.1), (one_by_one t ns ss h.1))
 one_by_one t _ _ h = grind arith

@@ -105,7 +105,8 @@ pub before_later : (d : Date) → IsDate d → ((later : ℕ) → d.year < later
 before_later d valid =
     let within = valid_from_test d.year d.month d.day valid in
     let months = before_month d.year d.month d.day within.1 within.2 in
-    ((λ later less. grind (arith, within, (months 13), (days_of_months_closed d.year 13), days_of_years_closed, (march_days_next d.year))), months)
+    let next = march_days_next d.year in
+    ((λ later less. grind (arith, within, (months 13), (days_of_months_closed d.year 13), days_of_years_closed, next)), months)
 
 pub one_date : (day : ℕ) → day ≤ 2_932_896 → ExactlyOne (IsDateOfDay day)
 one_date day few =
@@ -114,4 +115,6 @@ one_date day few =
 
 -- No date has a later day than the last one.
 pub day_at_most : (d : Date) → IsDate d → day_of d ≤ 2_932_896
-day_at_most d valid = grind (arith, (valid_from_test d.year d.month d.day valid), ((before_later d valid).0 10_000), (days_of_years_closed 10_000))
+day_at_most d valid =
+    let within = valid_from_test d.year d.month d.day valid in
+    grind (arith, within, ((before_later d valid).0 10_000), (days_of_years_closed 10_000))

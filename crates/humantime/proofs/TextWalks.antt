@@ -145,8 +145,8 @@ read_on text front rest spans r f =
 pub begun : (text : List ℕ) → IsReadTo text (take_while is_whitespace text) [] (drop_while is_whitespace text)
 begun text = grind (arith, common_steps, take_while-drop_while, take_while-only, begins-drop_while)
 
--- The text after these spans is parsed up to the end of a walk, where there is an error. If the spans break a limit only together with those
--- of the walk, so does the span at which the sum overflows.
+-- The text after these spans is parsed up to the end of a walk, where an error is. If the spans break a limit only together with those of
+-- the walk, so does the span at which the sum overflows.
 abbrev ReadsOn : List ℕ → List ℕ → Walk → Type 0
 ReadsOn text rest w = (front : List ℕ) (spans : List SpelledSpan) → IsReadTo text front spans rest
     → ((end : List ℕ) × IsReadTo text end (spans ++ map span_of w.starts) w.rest)

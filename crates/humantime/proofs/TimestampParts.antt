@@ -128,8 +128,6 @@ holds_before_zone P p text f w = grind (arith, nat_tests, valid_from_test, digit
 
 -- ==== The zone at the end of a text.
 
--- ---- The zone at the end
-
 -- The last six bytes, one by one.
 last_six : (bytes : List ℕ) (k : ℕ) → k + 6 ≡ length bytes → drop k bytes ≡
     slice_index bytes k ∷ slice_index bytes (k + 1) ∷ slice_index bytes (k + 2) ∷ slice_index bytes (k + 3) ∷ slice_index bytes (k + 4) ∷ slice_index bytes (k + 5) ∷ []

@@ -14,7 +14,7 @@ use Rattle.humantime.specs.Items.{SpanView}
 use Rattle.humantime.specs.DurationResults.{spelled, view_at}
 use Rattle.humantime.specs.SpanResults.{span_view}
 use Rattle.humantime.specs.Walks.{fault_at, has_bare_point, add}
-use Rattle.humantime.specs.StepsOfParts.{Counted, counted, IsTail}
+use Rattle.humantime.specs.StepsOfParts.{counted, IsTail}
 use Rattle.humantime.specs.declared.calendar.Date.{Date}
 use Rattle.humantime.specs.declared.date.error.TimestampError.{TimestampError}
 use Rattle.humantime.specs.declared.date.error.TimestampError.TheVariants.{InvalidDigit, InvalidFormat}
@@ -41,7 +41,7 @@ read_number text =
     if nat_lt u64_max (decimal_value (number_of text)) then None else Some ((take_while is_numeric text, None), after_number text)
 
 -- Reads the digits of a fraction at the start of a text, if any. More than 19 before the trailing zeros are too long.
-abbrev pub read_fraction : List ℕ → Option ((Counted × List ℕ) × List ℕ)
+abbrev pub read_fraction : List ℕ → Option (((ℕ × ℕ × ℕ) × List ℕ) × List ℕ)
 read_fraction text =
     if has_too_many_digits (Some (number_of text)) then None
     else Some ((counted (number_of text), take_while is_numeric text), after_number text)

@@ -9,16 +9,12 @@ use Rattle.humantime.specs.Durations.{Quantity, Nanos, Seconds, Scale, words}
 
 -- ==== The digits and spans that the `Fraction` and `Span` of the code represent.
 
--- A fraction as three numbers: the value of its digits without trailing zeros, the number of these digits, and the number of all digits.
-abbrev pub Counted : Type 0
-Counted = ℕ × ℕ × ℕ
-
--- Returns the three numbers for these digits.
-abbrev pub counted : List ℕ → Counted
+-- Returns a fraction as three numbers: the value of its digits without trailing zeros, their number, and the number of all digits.
+abbrev pub counted : List ℕ → ℕ × ℕ × ℕ
 counted ds = (decimal_value (without_trailing_zeros ds), length (without_trailing_zeros ds), length ds)
 
 -- Returns the three numbers of a `Fraction` of the code.
-abbrev pub parts_of : Fraction → Counted
+abbrev pub parts_of : Fraction → ℕ × ℕ × ℕ
 parts_of f = (f.significand, f.exponent, f.len)
 
 -- The value is that of the digits of the text, and the numbers of the fraction, if any, are those of the digits of its text.

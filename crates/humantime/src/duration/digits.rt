@@ -1,7 +1,8 @@
 //! The arithmetic that builds the number of a span and its [`Fraction`] digit by digit.
 
-ghost use Rattle.std.specs.Prelude.{◌≡◌, ℕ, List, [], ◌∷◌, ◌++◌, length, true, IfNone, IfSome, SomeIff, ◌+◌, ◌-◌, ◌*◌, ◌^◌, ◌≤◌, ◌<◌};
-ghost use Rattle.humantime.specs.Characters.{is_digit, max_fraction_digits, u64_max, without_trailing_zeros};
+ghost use Rattle.std.specs.Prelude.{◌≡◌, ℕ, List, [], ◌∷◌, ◌++◌, true, IfNone, IfSome, Some, SomeIff, ◌+◌, ◌-◌, ◌*◌, ◌^◌, ◌≤◌, ◌<◌};
+ghost use Rattle.humantime.specs.Characters.{is_digit, max_fraction_digits, u64_max};
+ghost use Rattle.humantime.specs.Durations.{has_too_many_digits};
 
 /// The maximum number of digits in a fraction before its trailing zeros. Any number of so many digits fits in a `u64`.
 const MAX_FRACTION_DIGITS: usize = 19;
@@ -70,7 +71,7 @@ impl Fraction {
         requires digits { (ds : List ℕ) × HasDigits self ds }
         requires room { self.len + 1 < 2 ^ 64 }
         ensures pushed { (ds : List ℕ) → HasDigits self ds → IfSome result (λ f. HasDigits f (ds ++ c ∷ [])) }
-        ensures full { (ds es : List ℕ) → HasDigits self ds → IfNone result (max_fraction_digits < length (without_trailing_zeros (ds ++ c ∷ es))) }
+        ensures full { (ds es : List ℕ) → HasDigits self ds → IfNone result (has_too_many_digits (Some (ds ++ c ∷ es)) ≡ true) }
     {
         let len = self.len + 1;
         if c == b'0' {
