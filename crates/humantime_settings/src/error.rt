@@ -18,23 +18,15 @@ use std::fmt::{self, InlineText};
 /// ```
 /// use humantime::StdDuration;
 /// use humantime_settings::{AsText, SettingsError, from_toml};
-/// use std::alloc::Global;
 /// use std::collections::BTreeMap;
 ///
-/// type Waits = BTreeMap<String, AsText<StdDuration>>;
-///
-/// /// Reads settings from a text, which is gone afterwards.
-/// fn waits(alloc: Global, text: String) -> Result<Waits, SettingsError> {
-///     from_toml(alloc, &text)
-/// }
-///
 /// let text = String::from_str(rt.alloc(), "first = '1s'\nsecond = '90'\n")?;
-/// match waits(rt.alloc(), text) {
-///     Err(SettingsError::At(fault)) => {
-///         assert_eq!(rt; fault.message.as_str(), "time unit needed, for example 90sec or 90ms");
-///     }
-///     other => panic!(rt; "{other:?}"),
-/// }
+/// let read = from_toml::<BTreeMap<String, AsText<StdDuration>>>(rt.alloc(), &text);
+/// drop(text);
+/// let Err(SettingsError::At(fault)) = read else {
+///     panic!(rt; "{read:?}");
+/// };
+/// assert_eq!(rt; fault.message.as_str(), "time unit needed, for example 90sec or 90ms");
 /// ```
 #[derive(Debug, Drop, PartialEq, Eq)]
 pub enum SettingsError {
@@ -53,10 +45,9 @@ impl SettingsError {
     /// # Examples
     ///
     /// ```
-    /// use humantime::StdDuration;
-    /// use humantime_settings::{AsText, SettingsError, from_json};
+    /// use humantime_settings::{SettingsError, from_json};
     ///
-    /// let read = from_json::<AsText<StdDuration>>(rt.alloc(), "\n\"5 moons\"");
+    /// let read = from_json::<bool>(rt.alloc(), "\n 7");
     /// assert_eq!(rt; read.err().ok_or("read")?.line(), Some(2));
     /// assert_eq!(rt; SettingsError::OutOfMemory.line(), None);
     /// ```
