@@ -8,11 +8,6 @@ use std::fmt::{Display, InlineText};
 /// A message as the error of a format has it: its first 80 bytes, which end in dots if it is longer.
 pub(crate) type Message = InlineText<80>;
 
-/// The error of a value that is no string, where a duration is wanted. JSON has room for 32 bytes.
-pub(crate) const WANTS_DURATION: &str = "expected a duration in quotes";
-/// The error of a value that is no string, where a timestamp is wanted.
-pub(crate) const WANTS_TIMESTAMP: &str = "expected a timestamp in quotes";
-
 /// What is wrong with a string, and where.
 #[derive(Drop)]
 pub(crate) struct Fault {
@@ -33,29 +28,28 @@ impl Fault {
             end,
         }
     }
-
-    /// Returns the same fault of a string with this many more bytes before it.
-    pub(crate) fn after(self, offset: usize) -> Fault {
-        Fault {
-            message: self.message,
-            start: self.start.saturating_add(offset),
-            end: self.end.saturating_add(offset),
-        }
-    }
 }
 
-/// Returns the fault of the string literal at the front of a document, if `said`, which the format may have cut, is its message.
+/// Returns the fault of the string literal at an offset of a document, if `said`, which the format may have cut, is its message.
 pub(crate) fn fault_in(
     alloc: Global,
     said: &str,
     document: &str,
+    at: usize,
     text: &str,
 ) -> Result<Option<Fault>, AllocError> {
-    let fault = said_fault(alloc, said, document, text, parse_duration(text).err())?;
+    let fault = said_fault(alloc, said, document, at, text, parse_duration(text).err())?;
     if fault.is_some() {
         return Ok(fault);
     }
-    said_fault(alloc, said, document, text, parse_rfc3339_weak(text).err())
+    said_fault(
+        alloc,
+        said,
+        document,
+        at,
+        text,
+        parse_rfc3339_weak(text).err(),
+    )
 }
 
 /// Returns the fault of a string with this error, if `said` is its message.
@@ -63,6 +57,7 @@ fn said_fault<E: Display + Drop>(
     alloc: Global,
     said: &str,
     document: &str,
+    at: usize,
     text: &str,
     error: Option<Located<E>>,
 ) -> Result<Option<Fault>, AllocError> {
@@ -74,10 +69,11 @@ fn said_fault<E: Display + Drop>(
         Some(front) => message.starts_with(front),
         None => said == message.as_str(),
     };
-    let (start, end) = raw_range(document, text, error.start, error.end);
+    let literal = document.get(at..).unwrap_or("");
+    let (start, end) = raw_range(literal, text, error.start, error.end);
     Ok(is_said.then_some(Fault {
         message,
-        start,
-        end,
+        start: start.saturating_add(at),
+        end: end.saturating_add(at),
     }))
 }

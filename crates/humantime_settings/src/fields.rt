@@ -7,7 +7,7 @@ ghost use Rattle.serde.specs.Steps.{Begins, Gives};
 ghost use Rattle.humantime.specs.Prelude.{IsPrinted, duration_answer, duration_text, places_of, weak_answer};
 ghost use Rattle.humantime_settings.specs.Texts.{Form, AreEntries, AreTexts, IsMapFrom, IsText, IsTextOrNothing, Reads, ReadsEntry, Writes};
 
-use crate::faults::{Message, WANTS_DURATION, WANTS_TIMESTAMP};
+use crate::faults::Message;
 use humantime::laws::printed_moment_reads;
 use humantime::{
     Duration, StdDuration, SystemTime, Timestamp, format_duration, format_rfc3339, parse_duration,
@@ -200,14 +200,17 @@ trait Text: Sized + Drop {
     fn write_text<S: Serializer>(&self, out: &mut S) -> Result<(), S::Error>
         ensures { OnOk result ((t : List ℕ) × IsPrintedAs self.now t × IsParsedFrom self.now t × Logs (S.written out.old) (S.written out.new) (text t)) };
 
-    /// The error of a value that is no string.
-    const WANTED: &'static str;
+    /// The error of a value that is no string, for which JSON has 32 bytes.
+    const WANTED: &'static str = "expected a duration in quotes";
 
     /// Parses a string, or returns the message of the error.
     fn parse_text(text: &str) -> Result<Self, Message>
         ensures value { IfOk result (λ v. IsParsedFrom v text.now) }
         ensures refused { IfErr result (λ _. (v : Self) → ¬ IsParsedFrom v text.now) };
 }
+
+/// The error of a value that is no string, where a timestamp is wanted.
+const WANTS_TIMESTAMP: &str = "expected a timestamp in quotes";
 
 impl<T: Text> Value for T {
     ghost IsWrittenAs = { IsText T.IsPrintedAs };
@@ -230,7 +233,7 @@ impl<T: Text> Value for Option<T> {
 
     fn write<S: Serializer>(&self, out: &mut S) -> Result<(), S::Error> {
         match self {
-            Some(value) => value.write_text(out),
+            Some(value) => value.write(out),
             None => out.unit(),
         }
     }
@@ -349,7 +352,8 @@ fn read_text<T: Text, F: Format>(
 {
     let text = match from.string(alloc) {
         Ok(text) => text,
-        Err(error) => return Err(no_text::<T, F>(from, error)),
+        Err(error) if from.is_fatal(&error) => return Err(error),
+        Err(_) => return Err(from.custom(T::WANTED)),
     };
     match T::parse_text(&text) {
         Ok(value) => Ok(value),
@@ -357,21 +361,10 @@ fn read_text<T: Text, F: Format>(
     }
 }
 
-/// Returns the error where no string was read.
-fn no_text<T: Text, F: Format>(from: &Deserializer<'_, '_, F>, error: F::Error) -> F::Error {
-    if from.is_fatal(&error) {
-        error
-    } else {
-        from.custom(T::WANTED)
-    }
-}
-
 impl Text for StdDuration {
     ghost IsPrintedAs = { λ d t. t ≡ duration_text d };
 
     ghost IsParsedFrom = { λ d t. duration_answer (chars t) ≡ Ok d };
-
-    const WANTED: &'static str = WANTS_DURATION;
 
     fn write_text<S: Serializer>(&self, out: &mut S) -> Result<(), S::Error> {
         out.str(format_duration(*self).text(&mut [0; 64]))
@@ -387,8 +380,6 @@ impl Text for Duration {
 
     ghost IsParsedFrom = { λ d t. duration_answer (chars t) ≡ Ok d };
 
-    const WANTED: &'static str = WANTS_DURATION;
-
     fn write_text<S: Serializer>(&self, out: &mut S) -> Result<(), S::Error> {
         self.as_ref().write_text(out)
     }
@@ -402,8 +393,6 @@ impl Text for time::Duration {
     ghost IsPrintedAs = { λ d t. t ≡ duration_text (as_nanos d) };
 
     ghost IsParsedFrom = { λ d t. duration_answer (chars t) ≡ Ok (as_nanos d) };
-
-    const WANTED: &'static str = WANTS_DURATION;
 
     fn write_text<S: Serializer>(&self, out: &mut S) -> Result<(), S::Error> {
         StdDuration::from_std(*self).write_text(out)

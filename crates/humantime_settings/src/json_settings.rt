@@ -80,10 +80,7 @@ pub fn to_json<T: Serialize>(alloc: Global, value: &T) -> Result<String, Setting
 
 /// Returns the fault of an error in a document.
 fn located(alloc: Global, text: &str, error: &serde_json::Error) -> Result<Fault, AllocError> {
-    // `MESSAGE at line 1 column 2`, which is where the value or the key with the error begins, or where the object ends that lacks a key.
-    let mut message = error.to_string(alloc)?;
-    message.truncate(message.rfind(" at line ").unwrap_or(message.len()));
-    let at = offset_of(text, error);
+    let (message, at) = (message_of(alloc, error)?, offset_of(text, error));
     let mut scratch = Scratch::new(alloc);
     let (path, token) = path_to(alloc, text, at, &mut scratch)?;
     match (path.last(), token) {
@@ -91,14 +88,20 @@ fn located(alloc: Global, text: &str, error: &serde_json::Error) -> Result<Fault
             return Ok(Fault::at(*start, message));
         }
         (_, Token::String(string) | Token::Key(string)) => {
-            let front = text.get(at..).unwrap_or("");
-            if let Some(fault) = fault_in(alloc, &message, front, string)? {
-                return Ok(fault.after(at));
+            if let Some(fault) = fault_in(alloc, &message, text, at, string)? {
+                return Ok(fault);
             }
         }
         _ => {}
     }
     Ok(Fault::at(at, with_token(alloc, message, token)?))
+}
+
+/// Returns the message of an error without its position.
+fn message_of(alloc: Global, error: &serde_json::Error) -> Result<String, AllocError> {
+    let mut message = error.to_string(alloc)?;
+    message.truncate(message.rfind(" at line ").unwrap_or(message.len()));
+    Ok(message)
 }
 
 /// Returns a message with the type, the number or the name that `serde_json` leaves out.
@@ -125,7 +128,8 @@ fn type_of(token: Token<'_>) -> &'static str {
     }
 }
 
-/// Returns the offset of an error in the document. The error has a line, from 1, and a column, in bytes from 1.
+/// Returns the offset of an error in the document: where the value or the key with the error begins, or where the object ends that lacks a
+/// key. The error has a line, from 1, and a column, in bytes from 1.
 pub(crate) fn offset_of(document: &str, error: &serde_json::Error) -> usize {
     let mut offset = error.column().saturating_sub(1);
     for line in document

@@ -38,17 +38,12 @@ pub(crate) fn path_to<'a>(
         if at >= offset {
             return Ok((path, token));
         }
-        pass(&mut path, token)?;
+        // The next token has no key yet.
+        if matches!(token, Token::BeginObject | Token::BeginArray) {
+            path.push(Step::Item(1))?;
+        } else if let Some(Step::Item(number)) = path.last_mut() {
+            *number = number.saturating_add(1);
+        }
     }
     Ok((path, Token::Bad))
-}
-
-/// Turns the path to a token into the path to the next one, which has no key yet.
-fn pass<'a>(path: &mut Vec<Step<'a>>, token: Token<'a>) -> Result<(), AllocError> {
-    if matches!(token, Token::BeginObject | Token::BeginArray) {
-        path.push(Step::Item(1))?;
-    } else if let Some(Step::Item(number)) = path.last_mut() {
-        *number = number.saturating_add(1);
-    }
-    Ok(())
 }

@@ -89,7 +89,7 @@ impl<'a> Walk<'a> {
         } else {
             left
         };
-        Ok(is_end(self.left).then_some(Place { key, value: header }))
+        Ok(matches!(self.left, Some([])).then_some(Place { key, value: header }))
     }
 
     /// Passes an entry of the table that is open, or goes into its value if the path leads there.
@@ -142,9 +142,9 @@ impl<'a> Walk<'a> {
     ) -> Result<(Left<'a>, &'a str, &'a str), ParseError> {
         let (mut left, mut part, mut rest) = (left, key, key);
         for _ in 0..key.len() {
-            let (behind, after) = part_of(self.alloc, part, left)?;
-            (left, rest) = (behind, skip_ws(after));
-            if first(rest) != b'.' || is_end(left) {
+            let (name, after) = name_at(self.alloc, part)?;
+            (left, rest) = (behind(left, &name), skip_ws(after));
+            if first(rest) != b'.' || matches!(left, Some([])) {
                 break;
             }
             (left, part) = (self.last_item(left), skip_ws(tail(rest, 1)));
@@ -171,25 +171,6 @@ impl<'a> Walk<'a> {
     }
 }
 
-/// Returns `true` if a path ends there.
-fn is_end(left: Left<'_>) -> bool {
-    left.is_some_and(|left| left.is_empty())
-}
-
-/// Passes a part of a key. Returns what is left of the path and the document behind it.
-fn part_of<'a>(
-    alloc: Global,
-    part: &'a str,
-    left: Left<'a>,
-) -> Result<(Left<'a>, &'a str), ParseError> {
-    if starts_string(part) {
-        let (name, after) = quoted(alloc, part)?;
-        return Ok((behind(left, &name), after));
-    }
-    let name = bare_name(part);
-    Ok((behind(left, name), tail(part, name.len())))
-}
-
 /// Returns what is left of a path behind a key.
 fn behind<'a>(left: Left<'a>, name: &str) -> Left<'a> {
     match left? {
@@ -198,10 +179,14 @@ fn behind<'a>(left: Left<'a>, name: &str) -> Left<'a> {
     }
 }
 
-/// Returns the part of a key at the front that is not in quotes.
-pub(crate) fn bare_name(part: &str) -> &str {
-    let end = part.find(['.', '=', ']', ' ', '\t']);
-    part.get(..end.unwrap_or(part.len())).unwrap_or("")
+/// Returns the string or the part of a bare key at the front, and the document behind it.
+pub(crate) fn name_at(alloc: Global, front: &str) -> Result<(String, &str), ParseError> {
+    if starts_string(front) {
+        return quoted(alloc, front);
+    }
+    let end = front.find(['.', '=', ']', ' ', '\t']);
+    let name = front.get(..end.unwrap_or(front.len())).unwrap_or("");
+    Ok((String::from_str(alloc, name)?, tail(front, name.len())))
 }
 
 /// Returns the document from an item of the array at the front on.

@@ -8,11 +8,11 @@ use crate::error::{SettingsError, marked_at};
 use crate::faults::{Fault, Message, fault_in};
 use crate::json_settings::offset_of;
 use crate::path::{Step, path_to};
-use crate::toml_places::{Place, bare_name, place_of};
+use crate::toml_places::{Place, name_at, place_of};
 use json::{Reader, Scratch, Token};
 use serde::{Deserialize, DeserializeOwned, Deserializer, Format, Serialize};
 use std::alloc::{AllocError, Global};
-use toml_parser::{ParseError, quoted, starts_string};
+use toml_parser::ParseError;
 
 /// Reads settings in TOML.
 ///
@@ -140,9 +140,12 @@ fn fault_of<T: DeserializeOwned>(
     keys: &str,
 ) -> Result<Option<Fault>, ParseError> {
     let json = as_json(alloc, text)?;
-    let Some(at) = error_in::<T>(alloc, &json)? else {
-        return Ok(None);
+    let error = match serde_json::from_str::<Owned<T>>(alloc, &json) {
+        Ok(_) => return Ok(None),
+        Err(error) if error.is_memory() => return Err(ParseError::OutOfMemory),
+        Err(error) => error,
     };
+    let at = offset_of(&json, &error);
     if said == "invalid value" && matches!(json.get(at..at.saturating_add(2)), Some("{}" | "[]")) {
         // TOML has these for a variant without data.
         return Ok(None);
@@ -155,24 +158,14 @@ fn fault_of<T: DeserializeOwned>(
     }
     // A field that stands twice can be read up to the end of its second value.
     let is_key = said.starts_with("duplicate field")
+        || said.starts_with(NO_VARIANT)
         || matches!((path.last(), token), (Some(Step::Key(..)), Token::Key(_)));
-    let Some(steps) = steps_to(alloc, &path, is_key, said, keys)? else {
+    if !leads(alloc, &mut path, is_key, said, keys)? {
         return Ok(None);
-    };
-    path.truncate(steps);
-    let Some(place) = place_of(alloc, text, &path)? else {
-        return Ok(None);
-    };
-    let is_key = is_key || said.starts_with(NO_VARIANT);
-    Ok(Some(fault_at(alloc, text, said, place, is_key)?))
-}
-
-/// Returns the offset of the error of a value in JSON, if it is not of this type.
-fn error_in<T: DeserializeOwned>(alloc: Global, json: &str) -> Result<Option<usize>, AllocError> {
-    match serde_json::from_str::<Owned<T>>(alloc, json) {
-        Ok(_) => Ok(None),
-        Err(error) if error.is_memory() => Err(AllocError),
-        Err(error) => Ok(Some(offset_of(json, &error))),
+    }
+    match place_of(alloc, text, &path)? {
+        Some(place) => Ok(Some(fault_at(alloc, text, said, place, is_key)?)),
+        None => Ok(None),
     }
 }
 
@@ -199,31 +192,16 @@ fn as_json(alloc: Global, text: &str) -> Result<String, AllocError> {
     Ok(copy)
 }
 
-/// Returns how many steps of the path to a token lead to what has the error `said`, or `None` if these keys do not tell.
-fn steps_to(
+/// Turns the path to a token into the path to what has the error `said`. Returns `false` if these keys, which `toml` cuts at 80 bytes, do
+/// not tell it.
+fn leads(
     alloc: Global,
-    path: &[Step<'_>],
+    path: &mut Vec<Step<'_>>,
     is_key: bool,
     said: &str,
     keys: &str,
-) -> Result<Option<usize>, AllocError> {
-    let Some(steps) = steps_with(alloc, path, keys)? else {
-        return Ok(None);
-    };
-    if said.starts_with(NO_VARIANT) {
-        // The token is anywhere in the value. An item has the same keys as its array.
-        let is_item = matches!(path.get(..steps), Some([.., Step::Item(_)]));
-        return Ok((!is_item).then_some(steps));
-    }
-    // The error of a key has the keys of its table, too.
-    let is_same = path.len() <= steps.saturating_add(is_key as usize);
-    Ok(is_same.then_some(path.len()))
-}
-
-/// Returns the greatest number of steps of a path that have these keys, which `toml` cuts at 80 bytes.
-fn steps_with(alloc: Global, path: &[Step<'_>], keys: &str) -> Result<Option<usize>, AllocError> {
-    let mut joined = String::new(alloc);
-    let mut found = keys.is_empty().then_some(0);
+) -> Result<bool, AllocError> {
+    let (mut joined, mut found) = (String::new(alloc), keys.is_empty().then_some(0));
     for (at, step) in path.iter().enumerate() {
         if let Step::Key(key, _) = step {
             if !joined.is_empty() {
@@ -235,7 +213,16 @@ fn steps_with(alloc: Global, path: &[Step<'_>], keys: &str) -> Result<Option<usi
             found = Some(at.saturating_add(1));
         }
     }
-    Ok(found)
+    let Some(steps) = found else {
+        return Ok(false);
+    };
+    if said.starts_with(NO_VARIANT) {
+        // The token is anywhere in the value. An item has the same keys as its array.
+        path.truncate(steps);
+        return Ok(!matches!(path.last(), Some(Step::Item(_))));
+    }
+    // The error of a key has the keys of its table, too.
+    Ok(path.len() <= steps.saturating_add(is_key as usize))
 }
 
 /// Returns the fault with the error `said` at a place, of the key or of the value.
@@ -246,25 +233,13 @@ fn fault_at(
     place: Place<'_>,
     is_key: bool,
 ) -> Result<Fault, ParseError> {
-    let offset_of = |rest: &str| text.len().saturating_sub(rest.len());
-    let (key, value) = (offset_of(place.key), offset_of(place.value));
+    let begin = |rest: &str| text.len().saturating_sub(rest.len());
+    let front = if is_key { place.key } else { place.value };
+    let (string, _) = name_at(alloc, front)?;
+    if let Some(fault) = fault_in(alloc, said, text, begin(front), &string)? {
+        return Ok(fault);
+    }
     // A header begins before its key.
-    let (string, start) = if is_key {
-        (place.key, key.min(value))
-    } else {
-        (place.value, value)
-    };
-    match fault_in_front(alloc, said, string)? {
-        Some(fault) => Ok(fault.after(offset_of(string))),
-        None => Ok(Fault::at(start, String::from_str(alloc, said)?)),
-    }
-}
-
-/// Returns the fault of the string or the bare key at the front, if it has the error `said` of a duration or a timestamp.
-fn fault_in_front(alloc: Global, said: &str, front: &str) -> Result<Option<Fault>, ParseError> {
-    if starts_string(front) {
-        let (text, _) = quoted(alloc, front)?;
-        return Ok(fault_in(alloc, said, front, &text)?);
-    }
-    Ok(fault_in(alloc, said, front, bare_name(front))?)
+    let start = begin(front).min(begin(place.value));
+    Ok(Fault::at(start, String::from_str(alloc, said)?))
 }

@@ -1,7 +1,0 @@
-use Rattle.std.proofs.Common.{refl}
-use Rattle.std.proofs.lemmas.Result.{on_ok_weaker}
-use Rattle.humantime_settings.specs.Texts.{one_text}
-use Rattle.humantime_settings.proofs.fields.OptionValue.write.Goals as goal
-
-pub returns-in-Some : goal.returns-in-Some
-returns-in-Some g c = rw c.in-Some.is (on_ok_weaker c.write_text.result (λ h. (one_text h.0, (h.0, refl, h.1), (h.0, refl, h.2), h.3)) c.write_text.ensures)
