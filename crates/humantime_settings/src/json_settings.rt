@@ -98,7 +98,7 @@ fn located(alloc: Global, text: &str, error: &serde_json::Error) -> Result<Fault
 }
 
 /// Returns the message of an error without its position.
-fn message_of(alloc: Global, error: &serde_json::Error) -> Result<String, AllocError> {
+pub(crate) fn message_of(alloc: Global, error: &serde_json::Error) -> Result<String, AllocError> {
     let mut message = error.to_string(alloc)?;
     message.truncate(message.rfind(" at line ").unwrap_or(message.len()));
     Ok(message)

@@ -6,7 +6,7 @@ ghost use Rattle.humantime_settings.specs.Marks.{IsErrorIn};
 
 use crate::error::{SettingsError, marked_at};
 use crate::faults::{Fault, Message, fault_in};
-use crate::json_settings::offset_of;
+use crate::json_settings::{message_of, offset_of};
 use crate::path::{Step, path_to};
 use crate::toml_places::{Place, name_at, place_of};
 use json::{Reader, Scratch, Token};
@@ -26,9 +26,10 @@ use toml_parser::ParseError;
 /// - of a missing key: the start of its table. This is its header or its brace, or the first key that makes it, and of the table at the top
 ///   the start of the document.
 ///
-/// Returns [`SettingsError::Whole`], with the keys in the message, if the position is not known: of an item of an array that is no variant
-/// of an untagged enum, and where the same values are no such settings in JSON, which has no empty table for a variant without data, no
-/// integer key such as `+5` or `007`, and at most 127 objects and arrays in one another.
+/// Returns [`SettingsError::Whole`], with the keys in the message, if the position is not known: where the same values are no such settings
+/// in JSON, which has no empty table for a variant without data, no integer key such as `+5` or `007`, and at most 127 objects and arrays
+/// in one another; and of what is no variant of an untagged enum, if it is an item of an array, or if such a table or key may be in the
+/// document.
 ///
 /// Returns [`SettingsError::OutOfMemory`] if an allocation fails.
 ///
@@ -86,6 +87,9 @@ pub fn to_toml<T: Serialize>(alloc: Global, value: &T) -> Result<String, Setting
 
 /// The message of a value that is no variant of an untagged enum begins so.
 const NO_VARIANT: &str = "data did not match any variant";
+
+/// What TOML reads and JSON does not, as JSON has it: the empty value of a variant without data, and integer keys such as `+5` and `007`.
+const OF_TOML: [&str; 5] = ["{}", "[]", "\"+", "\"0", "\"-0"];
 
 /// A value that is read from JSON and borrows nothing from it.
 #[derive(Drop)]
@@ -146,10 +150,6 @@ fn fault_of<T: DeserializeOwned>(
         Err(error) => error,
     };
     let at = offset_of(&json, &error);
-    if said == "invalid value" && matches!(json.get(at..at.saturating_add(2)), Some("{}" | "[]")) {
-        // TOML has these for a variant without data.
-        return Ok(None);
-    }
     let mut scratch = Scratch::new(alloc);
     let (mut path, token) = path_to(alloc, &json, at, &mut scratch)?;
     if said == "invalid length" && !matches!(token, Token::EndArray) {
@@ -160,12 +160,25 @@ fn fault_of<T: DeserializeOwned>(
     let is_key = said.starts_with("duplicate field")
         || said.starts_with(NO_VARIANT)
         || matches!((path.last(), token), (Some(Step::Key(..)), Token::Key(_)));
-    if !leads(alloc, &mut path, is_key, said, keys)? {
+    let told = message_of(alloc, &error)?;
+    if is_of_json(&told, &json, at, said) || !leads(alloc, &mut path, is_key, said, keys)? {
         return Ok(None);
     }
     match place_of(alloc, text, &path)? {
         Some(place) => Ok(Some(fault_at(alloc, text, said, place, is_key)?)),
         None => Ok(None),
+    }
+}
+
+/// Returns `true` if JSON may have its error `told` because it does not read what TOML reads, and not for what TOML said.
+fn is_of_json(told: &str, json: &str, at: usize, said: &str) -> bool {
+    let is_anywhere = said.starts_with(NO_VARIANT);
+    let front = json.get(at..).unwrap_or("");
+    match told {
+        "invalid value" | "key must be a number" => OF_TOML.iter().any(|part| {
+            front.starts_with(*part) || is_anywhere && json.contains(*part)
+        }),
+        _ => is_anywhere || told == "recursion limit exceeded",
     }
 }
 
