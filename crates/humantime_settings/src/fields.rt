@@ -1,11 +1,11 @@
 //! Fields and items that are written as strings.
 
-ghost use Rattle.std.specs.Prelude.{◌≡◌, List, ℕ, Ok, OnOk, IfOk, IfErr, MatchOption, chars, string_bytes};
+ghost use Rattle.std.specs.Prelude.{◌≡◌, List, ℕ, Ok, OnOk, IfOk, IfErr, chars};
 ghost use Rattle.std.specs.Duration.{as_nanos};
-ghost use Rattle.serde.specs.Event.{Logs, map_ends, seq_ends, text};
-ghost use Rattle.serde.specs.Steps.{Begins, Gives};
+ghost use Rattle.serde.specs.Event.{Logs, text};
+ghost use Rattle.serde.specs.Steps.{Gives};
 ghost use Rattle.humantime.specs.Prelude.{IsPrinted, duration_answer, duration_text, places_of, weak_answer};
-ghost use Rattle.humantime_settings.specs.Texts.{Form, AreEntries, AreTexts, IsMapFrom, IsText, IsTextOrNothing, Reads, ReadsEntry, Writes};
+ghost use Rattle.humantime_settings.specs.Texts.{Form, AreEntries, AreTexts, IsMapFrom, IsText, IsTextOrNothing, Reads, Writes};
 
 use crate::faults::Message;
 use humantime::laws::printed_moment_reads;
@@ -269,12 +269,12 @@ impl<T: Text> Value for Vec<T> {
         from.begin_seq()?;
         let mut items = Vec::new(alloc);
         for _ in 0..u64::MAX {
-            match next_item(alloc, from)? {
-                Some(item) => match items.push(item) {
-                    Ok(()) => {}
-                    Err(_) => return Err(from.no_memory()),
-                },
-                None => return Ok(items),
+            if !from.next_item()? {
+                return Ok(items);
+            }
+            match items.push(read_text(alloc, from)?) {
+                Ok(()) => {}
+                Err(_) => return Err(from.no_memory()),
             }
         }
         Err(from.wrong_len())
@@ -304,43 +304,17 @@ impl<T: Text> Value for BTreeMap<String, T> {
         from.begin_map()?;
         let mut entries = BTreeMap::new(alloc);
         for _ in 0..u64::MAX {
-            match next_entry(alloc, from)? {
-                Some((key, value)) => match entries.insert(key, value) {
-                    Ok(old) => drop(old),
-                    Err(_) => return Err(from.no_memory()),
-                },
-                None => return Ok(entries),
+            if !from.next_entry()? {
+                return Ok(entries);
+            }
+            let key = from.string(alloc)?;
+            match entries.insert(key, read_text(alloc, from)?) {
+                Ok(old) => drop(old),
+                Err(_) => return Err(from.no_memory()),
             }
         }
         Err(from.wrong_len())
     }
-}
-
-/// Reads the next item of a list, or `None` at its end.
-fn next_item<T: Text, F: Format>(
-    alloc: Global,
-    from: &mut Deserializer<'_, '_, F>,
-) -> Result<Option<T>, F::Error>
-    ensures { IfOk result (λ o. MatchOption o (Gives F.gives from.old seq_ends from.new) (λ v. (t : List ℕ) × T.IsParsedFrom v t × Begins F.gives F.stays from.old (text t) from.new)) }
-{
-    if !from.next_item()? {
-        return Ok(None);
-    }
-    Ok(Some(read_text(alloc, from)?))
-}
-
-/// Reads the next entry of a map, or `None` at its end.
-fn next_entry<T: Text, F: Format>(
-    alloc: Global,
-    from: &mut Deserializer<'_, '_, F>,
-) -> Result<Option<(String, T)>, F::Error>
-    ensures { IfOk result (λ o. MatchOption o (Gives F.gives from.old map_ends from.new) (λ p. (t : List ℕ) × T.IsParsedFrom p.1 t × ReadsEntry F.gives (string_bytes p.0, t) from.old from.new)) }
-{
-    if !from.next_entry()? {
-        return Ok(None);
-    }
-    let key = from.string(alloc)?;
-    Ok(Some((key, read_text(alloc, from)?)))
 }
 
 /// Reads a string and parses it.
@@ -355,10 +329,7 @@ fn read_text<T: Text, F: Format>(
         Err(error) if from.is_fatal(&error) => return Err(error),
         Err(_) => return Err(from.custom(T::WANTED)),
     };
-    match T::parse_text(&text) {
-        Ok(value) => Ok(value),
-        Err(message) => Err(from.custom(message.as_str())),
-    }
+    T::parse_text(&text).map_err(|message| from.custom(message.as_str()))
 }
 
 impl Text for StdDuration {
