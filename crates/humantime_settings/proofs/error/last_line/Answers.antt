@@ -1,4 +1,4 @@
-use Rattle.std.proofs.Common.{◌≡◌, ◌≢◌, ◌==◌, ◌-◌, ◌<◌, ◌≤◌, ℕ, List, true, false, not, arith, length, drop, get_or, ◌∙◌, ap}
+use Rattle.std.proofs.Common.{◌≡◌, ◌==◌, ◌-◌, ◌<◌, ◌≤◌, ℕ, List, true, not, arith, length, drop, get_or, ◌∙◌, ap}
 use Rattle.std.proofs.lemmas.List.{get_or-drop, length-drop}
 use Rattle.std.proofs.lemmas.List.Sums.{suffix_len_is}
 use Rattle.std.proofs.lemmas.Str.Pattern.{NoCharPasses-char}
@@ -6,30 +6,20 @@ use Rattle.std.specs.List.{after_last}
 use Rattle.std.specs.Str.{NoCharPasses}
 use Rattle.humantime_settings.proofs.error.last_line.Goals as goal
 
-byte_after : (text : List ℕ) (j k : ℕ) → j ≤ k → get_or (drop j text) (k - j) 0 ≡ get_or text k 0
-byte_after text j k from = get_or-drop j text (k - j) 0 ∙ ap (λ n. get_or text n 0) (omega arith)
-
-is_other : (b c : ℕ) → c ≡ b → c ≢ 10 → not (b == 10) ≡ true
-is_other b c same other = grind arith
-
-is_feed : (b : ℕ) → b ≡ 10 → not (b == 10) ≡ false
-is_feed b is = grind arith
-
 -- What follows a line feed, and has none, is the last line.
 ends_at : (text : List ℕ) (j : ℕ) → j ≤ length text → NoCharPasses (λ c. c == 10) (drop j text) → (0 < j → get_or text (j - 1) 0 ≡ 10)
     → drop j text ≡ after_last (λ b. b == 10) text
 ends_at text j within none feed =
     let others : (k : ℕ) → j ≤ k → k < length text → not (get_or text k 0 == 10) ≡ true =
-    λ k from inside. is_other (get_or text k 0) _ (byte_after text j k from) (NoCharPasses-char 10 (drop j text) (k - j) none (omega arith) (omega (arith, length-drop j text))) in
-    let last = suffix_len_is (λ b. not (b == 10)) text j 0 within others (λ some. is_feed _ (feed some)) in
+    λ k from inside. grind (arith, get_or-drop j text (k - j) 0, NoCharPasses-char 10 (drop j text) (k - j) none (omega arith) (omega (arith, length-drop j text))) in
+    let last = suffix_len_is (λ b. not (b == 10)) text j 0 within others (λ some. grind (arith, feed some)) in
     ap (λ n. drop n text) (omega (arith, last, within))
 
 pub returns-in-Some : goal.returns-in-Some
 returns-in-Some c =
     let found = c.in-Some.ensures.cases in
-    let text = c.args.text.now in
-    let feed : get_or text (found.1 - 1) 0 ≡ 10 = ap (λ n. get_or text n 0) (omega (arith, found.2.1.ends)) ∙ found.2.1.byte (omega arith) in
-    found.4 ∙ ends_at text found.1 (omega (arith, found.7)) found.2.0 (λ _. feed)
+    let feed : get_or c.args.text.now (found.1 - 1) 0 ≡ 10 = grind (arith, found.2.1.ends, found.2.1.byte (omega arith)) in
+    found.4 ∙ ends_at c.args.text.now found.1 (omega (arith, found.7)) found.2.0 (λ _. feed)
 
 pub returns-in-None : goal.returns-in-None
 returns-in-None c = ends_at c.args.text.now 0 (omega arith) c.in-None.ensures.cases (λ none. absurd (omega arith))
