@@ -133,8 +133,8 @@ fn sum_of<'a>(text: &'a str) -> Result<StdDuration, DurationError<'a>>
 /// `1.5d`. Digits are ASCII. Unicode whitespace is allowed everywhere but in a unit. Trailing zeros of a fraction are ignored. The string
 /// `0`, without a unit or whitespace, is the zero duration.
 ///
-/// The units are `ns`, `us` or `µs`, `ms`, `s`, `m`, `h`, `d`, `w`, `M` (a month of 30.44 days) and `y` (a year of 365.25 days), and longer
-/// words such as `min`, `hours` and `months`. Case matters.
+/// A unit is a word of the table in `docs/DURATIONS.md`, such as `ns`, `us` or `µs`, `ms`, `s`, `m`, `h`, `d`, `w`, `M` (a month of 30.44
+/// days), `y` (a year of 365.25 days), `min`, `hours` or `months`. Case matters.
 ///
 /// # Errors
 ///
