@@ -1,5 +1,5 @@
 use Rattle.std.proofs.lemmas.Bool.Decides.{nat_tests}
-use Rattle.std.proofs.Common.{chars, arith}
+use Rattle.std.proofs.Common.{chars, arith, length}
 use Rattle.humantime.specs.Durations.{words}
 use Rattle.humantime.specs.StepsOfParts.{words_below, scale_from}
 use Rattle.humantime.proofs.UnitWords.{at_each_length, below_second}
@@ -7,6 +7,8 @@ use Rattle.humantime.proofs.unit.scale_of.Goals as goal
 
 pub returns-in_default : goal.returns-in_default
 returns-in_default c =
-    rw (← c.as_bytes.ensures.value) (at_each_length c.as_bytes.result.now _ (scale_from 1 (chars c.as_bytes.result.now)) _ (words_below 1 words) (below_second c.as_bytes.result.now c.as_bytes.ensures.utf8)
+    rw (← c.as_bytes.ensures.value) (rw (below_second c.as_bytes.result.now c.as_bytes.ensures.utf8)
+    (at_each_length c.as_bytes.result.now _ (words_below 1 words) (scale_from 1 (chars c.as_bytes.result.now)) (length c.as_bytes.result.now)
     (λ n. grind (arith, nat_tests)) (λ n. grind (arith, nat_tests)) (λ n. grind (arith, nat_tests)) (λ n. grind (arith, nat_tests))
-    (λ n. grind (arith, nat_tests)) (λ n. grind (arith, nat_tests)) (λ n. grind (arith, nat_tests)) (λ n. grind (arith, nat_tests)))
+    (λ n. grind (arith, nat_tests)) (λ n. grind (arith, nat_tests)) (λ n. grind (arith, nat_tests)) (λ n. grind (arith, nat_tests))
+    (λ n. grind (arith, nat_tests)) (λ n. grind (arith, nat_tests)) (λ n. grind (arith, nat_tests)) (λ n. grind (arith, nat_tests))))
