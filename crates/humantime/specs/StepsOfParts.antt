@@ -62,4 +62,3 @@ pub record HasDigits (f : Fraction) (ds : List ℕ) : Type 0 where
   pub parts : parts_of f ≡ counted ds
   pub few : f.exponent ≤ max_fraction_digits
   pub fits : f.significand < 10 ^ f.exponent
-
