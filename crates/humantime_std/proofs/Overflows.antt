@@ -1,5 +1,5 @@
 -- The first span up to whose end a text overflows.
-use Rattle.std.proofs.Common.{◌≡◌, ◌==◌, ◌↔◌, ◌⊎◌, ℕ, zero, suc, ◌-◌, ◌≤◌, Bool, true, false, List, [], ◌∷◌, ◌++◌, length, take, drop, Option, Some, None, Result, Err, IsUtf8, IsCharBoundary, SomeIff, chars, option_map, unwrap_or, refl, sym, ap, ◌∙◌, inl, inr, arith, append_assoc, append-nil, length-append}
+use Rattle.std.proofs.Common.{Ok, ◌≡◌, ◌==◌, ◌↔◌, ◌⊎◌, ℕ, zero, suc, ◌-◌, ◌≤◌, Bool, true, false, List, [], ◌∷◌, ◌++◌, length, take, drop, Option, Some, None, Result, Err, IsUtf8, IsCharBoundary, SomeIff, chars, option_map, unwrap_or, refl, sym, ap, ◌∙◌, inl, inr, arith, append_assoc, append-nil, length-append}
 use Rattle.std.specs.Prelude.{slice_get, encode_utf8_all, IsOk}
 use Rattle.std.specs.Iterator.{SkipsThenYields}
 use Rattle.std.specs.Option.{option_and_then}
@@ -19,12 +19,12 @@ use Rattle.humantime.specs.declared.duration.error.DurationError.{DurationError}
 use Rattle.humantime.specs.declared.duration.iter.SpanIter.{SpanIter}
 use Rattle.humantime.specs.declared.duration.span.Span.{Span}
 use Rattle.humantime.specs.DurationResults.{IsDurationAnswer, duration_answer, left_at, view_at}
-use Rattle.humantime.specs.Walks.{fault_at, stop_at}
+use Rattle.humantime.specs.Walks.{walk, fault_at, stop_at}
 use Rattle.humantime.proofs.Outcomes.{fault_from_outcome, items_whole, outcome_summed}
 use Rattle.humantime.proofs.Characters.{drop_while_shorter, take_while-drop_while}
-use Rattle.humantime.proofs.TextWalks.{IsReadTo, begun, not_zero, read_on, stops_here, walk-stop}
+use Rattle.humantime.proofs.TextWalks.{IsReadTo, begun, not_zero, read_on, stops_here, walk-go}
 use Rattle.humantime.proofs.Spellings.{fine_goes, is_fine, next_of, next_smaller, point_and_digits}
-use Rattle.humantime.proofs.Items.{left-go, one_span_view}
+use Rattle.humantime.proofs.Items.{one_span_view}
 use Rattle.humantime.proofs.Slices.{start_trimmed}
 use Rattle.humantime_std.specs.Located.{BeginsSpans, Fit, OverflowsAt, body, drop_spans, end_at, start_at, take_spans}
 
@@ -83,14 +83,19 @@ none_or_some (Some e) = inr (e, refl)
 
 -- An error that stops a rest is no span.
 no_span : (first : Bool) (text rest : List ℕ) (k : ℕ) (e : Fault) → fault_at text rest ≡ Some e → option_and_then result_ok (slice_get (left_at first text rest) k) ≡ None
+unfolding left_at walk
+no_span first text rest k e stops = grind (arith, common_steps, gets)
+
+-- A span at a rest is the next item.
+span_first : (first : Bool) (text rest : List ℕ) → fault_at text rest ≡ None → left_at first text rest ≡ Ok (view_at text rest) ∷ left_at false text (next_of rest)
 unfolding left_at
-no_span first text rest k e stops = grind (arith, common_steps, gets, (walk-stop text rest e stops))
+span_first first text rest goes = grind (arith, common_steps, (walk-go text rest goes))
 
 -- The item at an index, if it is no error, is the span there.
 item_at : (first : Bool) (text rest : List ℕ) (k : ℕ)
     → SomeIff (option_and_then result_ok (slice_get (left_at first text rest) k)) (BeginsSpans (suc k) rest) (view_at text (drop_spans k rest))
-item_at first text rest zero = grind (arith, (none_or_some (fault_at text rest)), (is_fine text rest), (fine_goes text rest), (left-go first text rest), (no_span first text rest 0))
-item_at first text rest (suc k) = grind (arith, (none_or_some (fault_at text rest)), (is_fine text rest), (fine_goes text rest), (left-go first text rest), (no_span first text rest (suc k)), (item_at false text (next_of rest) k))
+item_at first text rest zero = grind (arith, (none_or_some (fault_at text rest)), (is_fine text rest), (fine_goes text rest), (span_first first text rest), (no_span first text rest 0))
+item_at first text rest (suc k) = grind (arith, (none_or_some (fault_at text rest)), (is_fine text rest), (fine_goes text rest), (span_first first text rest), (no_span first text rest (suc k)), (item_at false text (next_of rest) k))
 
 -- What `nth` of the spans returned, if it is no error, is the span at this index.
 pub nth_is : (text : List ℕ) (it u : SpanIter) (r : Option (Result Span DurationError)) (k : ℕ) → AreItems text (items_left it) → SkipsThenYields GivesItem it k r u
