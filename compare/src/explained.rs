@@ -38,7 +38,7 @@ pub fn moment(text: &str, by_crate: &Caught<SystemTime, TimestampError>, by_libr
     let end = text.as_bytes().get(19..)?;
     match (by_crate, by_library) {
         (Ok(Ok(_)), Err(TimestampError::InvalidDigit)) if is_fraction_with_odd_tail(end) => Some(TAIL_AFTER_PLUS),
-        (Ok(Ok(_)), Err(TimestampError::InvalidFormat)) if end.len() > 1 && end[0] == b'Z' => Some(BYTES_AFTER_ZONE),
+        (Ok(Ok(_)), Err(TimestampError::InvalidFormat)) if (2..=6).contains(&end.len()) && end[0] == b'Z' => Some(BYTES_AFTER_ZONE),
         _ => None,
     }
 }

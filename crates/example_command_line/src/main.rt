@@ -1,6 +1,6 @@
-//! Prints the options of a command line. `--help` shows their defaults in canonical form, and a wrong value gets a mark.
+//! Prints the options of a command line. `--help` shows their defaults as canonical strings, and a wrong value is underlined.
 //!
-//! The exit status is 0, or 2 for wrong arguments, or 1 if writing fails or memory is refused.
+//! The exit status is 0, or 2 for wrong arguments, or 1 if writing fails or an allocation fails.
 #![tactic(auto)]
 
 use clap::error::ErrorKind;

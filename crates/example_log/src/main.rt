@@ -2,7 +2,7 @@
 //!
 //! A line has its timestamp at the front. A line without one goes with the line before it, and is left out if there is none.
 //!
-//! The exit status is 0, or 2 for wrong arguments, or 1 if reading or writing fails or memory is refused.
+//! The exit status is 0, or 2 for wrong arguments, or 1 if reading or writing fails or an allocation fails.
 #![tactic(auto)]
 
 use humantime::{SystemTime, TimestampError, parse_rfc3339_weak};

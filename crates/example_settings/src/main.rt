@@ -1,4 +1,4 @@
-//! Checks a settings file and prints it in canonical form: `example_settings FILE`, with a file in TOML.
+//! Checks a settings file and prints it with canonical strings: `example_settings FILE`, with a file in TOML.
 //!
 //! The exit status is 0 if the settings are valid, 2 unless there is exactly one argument, and 1 for any other error. If the settings have
 //! an error, standard error has the name of the file, the line, the column, what is wrong, and the line with a mark under the fault.
@@ -41,7 +41,7 @@ struct Backup {
     keep: Option<Duration>,
 }
 
-/// Returns the canonical form of settings.
+/// Returns settings with canonical strings.
 fn canonical(alloc: Global, text: &str) -> Result<String, SettingsError> {
     let settings: Settings = from_toml(alloc, text)?;
     to_toml(alloc, &settings)

@@ -1,6 +1,6 @@
 //! Prints the lines `NAME<TAB>DURATION` of standard input as a table, with each share of the total, the total, the mean and the longest.
 //!
-//! The exit status is 0, or 2 if a line is wrong, or 1 if reading or writing fails or memory is refused.
+//! The exit status is 0, or 2 if a line is wrong, or 1 if reading or writing fails or an allocation fails.
 #![tactic(auto)]
 
 use humantime::{DurationError, StdDuration, format_duration};

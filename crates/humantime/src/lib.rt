@@ -1,6 +1,6 @@
 //! Parses and prints durations such as `2h 37m` and UTC timestamps such as `2018-02-14T00:28:07Z`.
 //!
-//! The contracts cite the definitions in `specs/`, of which those that callers need are in `specs/Prelude.antt`.
+//! The contracts cite the definitions in `specs/`, of which most that callers need are in `specs/Prelude.antt`.
 //!
 //! # Examples
 //!

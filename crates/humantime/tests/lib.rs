@@ -1,4 +1,4 @@
-//! No call allocates: the rows hold, the program answers and `Debug` succeeds where memory is refused. These tests are run and not proved.
+//! No call allocates: the rows hold, the program answers and `Debug` succeeds where allocations fail. These tests are run and not proved.
 #![tactic(auto)]
 
 mod memory;

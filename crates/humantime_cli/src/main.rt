@@ -1,4 +1,4 @@
-//! A command-line program that prints a duration or a timestamp in its canonical form.
+//! A command-line program that prints a duration or a timestamp as its canonical string.
 //!
 //! `humantime duration "2h 37min"` prints `2h 37m`.
 #![tactic(auto)]

@@ -10,12 +10,13 @@ use std::io::{self, ErrorKind};
 use std::process::Abort;
 use std::test::Fail;
 
-/// Asserts that a run with these arguments returns this status and that one of the writers receives the line byte by byte.
+/// Asserts that a run with these arguments returns this status, that one of the writers receives the line byte by byte, and that none is
+/// flushed.
 fn assert_byte_by_byte(rt: &impl Abort, words: &[&str], status: u8, line: &str) {
     let (mut out, mut err) = (Limited::new(1, ROOM, None), Limited::new(1, ROOM, None));
     assert_eq!(rt; run(words, &mut out, &mut err), status, "after {words:?}");
     let (told, other) = if status == 0 { (&out, &err) } else { (&err, &out) };
-    assert_eq!(rt; (told.taken(), told.writes, other.writes), (line.as_bytes(), line.len(), 0), "after {words:?}");
+    assert_eq!(rt; (told.taken(), told.writes, other.writes, told.flushes + other.flushes), (line.as_bytes(), line.len(), 0, 0), "after {words:?}");
 }
 
 #[test]
@@ -25,12 +26,12 @@ fn lines_are_written_byte_by_byte(rt: HostRuntime) {
 }
 
 /// Asserts that a run returns status 3 if the writer of its output fails: the writer has received `taken`, it is not called again, and the
-/// other writer is never called.
+/// other writer is never called. Neither is flushed.
 fn assert_cut(rt: &impl Abort, words: &[&str], to_out: bool, taken: &[u8], step: usize, failure: Option<ErrorKind>) {
     let (mut failing, mut other) = (Limited::new(step, taken.len(), failure), Limited::open());
     let status = if to_out { run(words, &mut failing, &mut other) } else { run(words, &mut other, &mut failing) };
-    let found = (status, failing.taken(), failing.writes, other.writes);
-    assert_eq!(rt; found, (3, taken, taken.len().div_ceil(step) + 1, 0), "after {words:?}");
+    let found = (status, failing.taken(), failing.writes, other.writes, failing.flushes + other.flushes);
+    assert_eq!(rt; found, (3, taken, taken.len().div_ceil(step) + 1, 0, 0), "after {words:?}");
 }
 
 /// Asserts that nothing is written after a failure, however many bytes of the line were accepted before it.

@@ -3,7 +3,7 @@
 use crate::writing::all_agree;
 use std::fmt::{self, Display, Write};
 
-/// A sink that expects one string. It compares what is written with it, stores nothing, counts the writes, and fails after a write that
+/// A writer that expects one string. It compares what is written with it, stores nothing, counts the writes, and fails after a write that
 /// differs.
 #[derive(Drop)]
 struct Wanted<'a> {
@@ -25,12 +25,12 @@ impl fmt::Write for Wanted<'_> {
 
 /// Returns whether the value is written as this string, in at most `most` writes.
 pub fn is_written<D: Display + Drop>(value: D, text: &str, most: u32) -> bool {
-    let mut sink = Wanted {
+    let mut writer = Wanted {
         rest: Some(text.as_bytes()),
         requests: 0,
     };
-    match (sink.write(value), sink.rest) {
-        (Ok(()), Some([])) => sink.requests <= most,
+    match (writer.write(value), writer.rest) {
+        (Ok(()), Some([])) => writer.requests <= most,
         _ => false,
     }
 }
@@ -50,14 +50,14 @@ pub(crate) fn is_always_written<T: Display>(value: &T, text: &str, most: u32) ->
     ])
 }
 
-/// Returns the number of writes that `Display` makes to a sink that always fails, or `u32::MAX` if it returns `Ok`.
+/// Returns the number of writes that `Display` makes to a writer that always fails, or `u32::MAX` if it returns `Ok`.
 pub(crate) fn refused_requests<T: Display>(value: &T) -> u32 {
-    let mut sink = Wanted {
+    let mut writer = Wanted {
         rest: None,
         requests: 0,
     };
-    match write!(sink, "{value}") {
+    match write!(writer, "{value}") {
         Ok(()) => u32::MAX,
-        Err(_) => sink.requests,
+        Err(_) => writer.requests,
     }
 }

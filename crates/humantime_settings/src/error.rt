@@ -34,8 +34,8 @@ pub enum SettingsError {
     OutOfMemory,
     /// An error at a known position.
     At(Marked),
-    /// The message of an error whose position is not known, such as that of an item in TOML that is no variant of an untagged enum, or of a
-    /// value that cannot be written.
+    /// The message of an error without a known position, such as that of a value that cannot be written, or of an item in TOML that is no
+    /// variant of an untagged enum.
     Whole(String),
 }
 
@@ -177,8 +177,8 @@ const LONG_ESCAPED: usize = 3000;
 
 /// Writes the message. An error at a position begins with its line and column and, unless the line has over 500 bytes, ends with
 /// the line and a caret line: `^` under each column of what is wrong, or one where only the position is known. A control
-/// character of the line or the message, but for a tab, is written as an escape such as `\u{1b}`, so that none of the string is a command
-/// to a terminal.
+/// character of the line or the message, but for a tab, is written as an escape such as `\u{1b}`, so that none of them
+/// controls a terminal.
 ///
 /// # Examples
 ///

@@ -29,8 +29,8 @@ pub fn now(clock: &impl Clock) -> io::Result<SystemTime>
     Ok(SystemTime::from_std(time::SystemTime::now(clock)?).unwrap())
 }
 
-/// Lets a clock sleep for a duration. The runtime puts the current thread to sleep for at least that long; another `Clock` may return at
-/// any time. No contract can say how long it sleeps.
+/// Puts the current thread to sleep for at least a duration, if `clock` is the runtime. Another `Clock` may return at any time. No contract
+/// can say how long it sleeps.
 ///
 /// # Examples
 ///
@@ -70,8 +70,8 @@ pub fn elapsed(clock: &impl Clock, start: Instant) -> io::Result<StdDuration>
     Ok(time_left(start, Instant::now(clock)?))
 }
 
-/// Returns the end of a time limit that begins at `now`, or `None` if it is too late for an `Instant`, which is less than 2^63 seconds
-/// after the start of std's clock.
+/// Returns the end of a time limit that begins at `now`, or `None` if it is too late for an `Instant`: 2^63 seconds or more after the start
+/// of std's clock.
 ///
 /// # Examples
 ///

@@ -9,7 +9,7 @@ use std::time;
 
 const NANOS_PER_SECOND: u128 = 1_000_000_000;
 
-/// Methods of std's `Duration` that [`StdDuration`] does not have, and conversions from and to it.
+/// Further methods of [`StdDuration`], most of them named as in std's `Duration`, and conversions from and to that.
 ///
 /// # Examples
 ///

@@ -1,5 +1,5 @@
 //! `humantime` with std's `Duration`, `SystemTime` and `Instant`: conversions, the current time, sleep, deadlines, differences, the next
-//! run of a job, and parsers whose errors have a place ([`located`]).
+//! run of a job, and parsers whose errors have a position ([`located`]).
 //!
 //! The crate stands beside the port of the Rust crate `humantime`, which does not use it. A parameter `clock` takes the runtime, as `&rt`.
 //!

@@ -17,7 +17,7 @@ use std::error::Error;
 use std::fmt::{self, Display};
 use unicode_width::UnicodeWidthStr;
 
-/// An error of a parser, and the bytes of the string that are wrong. They begin and end where a character does.
+/// An error of a parser, and the range of the bytes that are wrong. The parsers return ranges that begin and end at `char` boundaries.
 ///
 /// `Display` writes the message of the error.
 ///
@@ -38,7 +38,7 @@ pub struct Located<E> {
     pub error: E,
     /// The offset of the first byte that is wrong.
     pub start: usize,
-    /// The offset after the last byte that is wrong. It is `start` if something is missing there.
+    /// The end of the range, exclusive. It is `start` if something is missing there.
     pub end: usize,
 }
 
@@ -64,7 +64,8 @@ impl<E> Located<E> {
         Underline { before, part }
     }
 
-    /// Returns this error for a string with this many more bytes before it. An offset that would be above `usize::MAX` is `usize::MAX`.
+    /// Returns this error for a string with `offset` more bytes before it: adds `offset` to both ends of the range. A sum above `usize::MAX`
+    /// becomes `usize::MAX`.
     ///
     /// # Examples
     ///
@@ -150,9 +151,9 @@ static LAYOUT: [u8; 19] = *b"0000-00-00 00:00:00";
 ///
 /// # Errors
 ///
-/// Returns its error with the character that is wrong, with the unit, or, if this is missing, with the end of the string. The range of
-/// `NumberOverflow` is the first span with which the string overflows, or, if its number or fraction is too long, everything from its start
-/// on. The range of `Empty` is the whole string.
+/// The range of an error is the wrong character, or the unknown unit; where a unit is missing, it is empty, at the end of the string. The
+/// range of `NumberOverflow` is the first span with which the string overflows, or, if its number or fraction is too long, everything from
+/// its start on. The range of `Empty` is the whole string.
 ///
 /// # Examples
 ///
@@ -193,7 +194,7 @@ pub fn parse_duration(text: &str) -> Result<StdDuration, Located<DurationError<'
 ///
 /// - if the first 19 bytes are not of the format `0000-00-00 00:00:00`, the first character that cannot be there, or the end of the
 ///   string if it ends before that;
-/// - else, if a number is out of range, the first such number, such as the day;
+/// - else, if a number is out of range, the first of these, such as the day;
 /// - else what follows the longest timestamp at the start of the string.
 ///
 /// # Examples
@@ -223,8 +224,8 @@ pub fn parse_rfc3339_weak(text: &str) -> Result<SystemTime, Located<TimestampErr
 ///
 /// # Errors
 ///
-/// Returns its error with the bytes that are wrong, as [`parse_rfc3339_weak`] does. A space in place of the `T` is wrong. If the zone is
-/// missing, the range is empty, at the end of the string.
+/// Returns its error with the bytes that are wrong, as [`parse_rfc3339_weak`] does, but with a number that is out of range only if the
+/// error is `OutOfRange`. A space in place of the `T` is wrong. If only the zone is missing, the range is empty, at the end of the string.
 ///
 /// # Examples
 ///
@@ -247,7 +248,8 @@ pub fn parse_rfc3339(text: &str) -> Result<SystemTime, Located<TimestampError>>
 
 /// Returns the range of the first span up to whose end a string overflows.
 ///
-/// It halves the number of spans that fit: each test parses a front of the string, so one for each span would take quadratic time.
+/// It finds the number of spans that fit by binary search. Each test parses a prefix of the string, so one for each span would take
+/// quadratic time.
 fn overflow_range(text: &str) -> (usize, usize)
     requires { duration_answer (chars text.now) ≡ Err NumberOverflow }
     ensures place { OverflowsAt (chars text.now) result.0 result.1 }
@@ -268,7 +270,7 @@ fn overflow_range(text: &str) -> (usize, usize)
     (start, span_end(text, low).unwrap_or(text.len()))
 }
 
-/// Returns the offset after the span at an index and the whitespace behind it, if the spans up to it are within the limits.
+/// Returns the offset after the span at an index and the whitespace after it, if the spans up to this one are within the limits.
 #[tactic(auto, using(crate::proofs::Overflows::after_span))]
 fn fitting_end(text: &str, index: usize) -> Option<usize>
     ensures { SomeIff result (Fit (chars text.now) (suc index)) (start_at (suc index) (chars text.now)) }

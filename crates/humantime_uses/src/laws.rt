@@ -135,7 +135,7 @@ pub fn read_alike(a: &str, b: &str) -> bool
     }
 }
 
-/// Parses a string in both forms. A string has parts in a form if and only if it fails no check there, and then only these.
+/// Parses a string in both formats. A string has parts in a format if and only if it fails no check there, and then only these.
 pub fn in_both_forms(text: &str) -> (Parsed, Parsed)
     ensures weak { (t : ℤ) → (result.0 ≡ Ok t) ↔ ((f : Fields) × IsWeak text.now f × (t ≡ pos (moment_of f))) }
     ensures strict { (t : ℤ) → (result.1 ≡ Ok t) ↔ ((f : Fields) × IsStrict text.now f × (t ≡ pos (moment_of f))) }

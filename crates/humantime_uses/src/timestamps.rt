@@ -83,7 +83,7 @@ pub fn is_between(stamp: &str, from: &str, to: &str) -> bool
     (from..to).contains(&stamp)
 }
 
-/// Parses a timestamp in any form, and prints it with microseconds, so that strings are in the order of their moments.
+/// Parses a timestamp in the weak format, and prints it with microseconds, so that strings are in the order of their times.
 pub fn sortable_stamp<'b>(
     text: &str,
     buf: &'b mut [u8; 30],

@@ -50,14 +50,14 @@ struct DateTime {
 
 /// Parses a timestamp in the weak format, such as `2018-02-14 00:28:07`, and returns the time that it represents.
 ///
-/// A `T` or a space separates the date from the time. A point and any number of digits, including none, may follow the seconds; digits
+/// A `T` or a space separates the date from the time. A decimal point and any number of digits, including none, may follow the seconds; digits
 /// after the ninth are ignored. The string may end in `Z` or `+00:00`, and is always in UTC. Second 60 is read as second 59. The Rust crate
 /// `humantime` defines this format, which is based on RFC 3339.
 ///
 /// # Errors
 ///
 /// - [`InvalidFormat`](TimestampError::InvalidFormat): the string has fewer than 19 bytes; a `-`, `T`, space or `:` is missing from its
-///   place; or the seconds are followed neither by a point nor by exactly nothing, `Z` or `+00:00`.
+///   position; or what follows the seconds begins with no decimal point, and is not empty, `Z` or `+00:00`.
 /// - [`InvalidDigit`](TimestampError::InvalidDigit): another of the first 19 bytes is not a digit; or a point after the seconds is followed
 ///   by something other than digits and then nothing, `Z` or `+00:00`.
 /// - [`OutOfRange`](TimestampError::OutOfRange): the date does not exist in the years 1970 to 9999, the hour is above 23, the minute
@@ -239,7 +239,7 @@ fn unix_seconds(when: DateTime) -> Option<u64>
 }
 
 /// Returns the nanoseconds of the fraction in the bytes after the seconds, or 0 if there is no fraction. A zone may follow. Returns an
-/// error if the bytes have any other form.
+/// error if the bytes have any other format.
 #[inline(always)]
 #[tactic(auto, unfolding(crate::specs::Timestamps::has_point, crate::specs::Timestamps::fraction_nanos))]
 fn fraction_after_seconds(rest: &[u8]) -> Result<u32, TimestampError>

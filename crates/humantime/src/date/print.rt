@@ -75,7 +75,7 @@ impl Model for Rfc3339Timestamp {
 /// Returns a value that prints `time` as a timestamp with no fraction if its nanoseconds are zero, and with nine digits otherwise.
 ///
 /// This function never fails. For a time outside 1970 to 9999, [`text`](Rfc3339Timestamp::text) returns `None` and `Display` returns
-/// [`fmt::Error`]. RFC 3339 defines the form of the timestamp, and the Rust crate `humantime` its number of digits.
+/// [`fmt::Error`]. RFC 3339 defines the format of the timestamp, and the Rust crate `humantime` its number of digits.
 ///
 /// # Examples
 ///

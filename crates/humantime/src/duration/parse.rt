@@ -130,8 +130,8 @@ fn sum_of<'a>(text: &'a str) -> Result<StdDuration, DurationError<'a>>
 /// Parses a duration, such as `2h 37min`.
 ///
 /// The string consists of one or more spans, and the duration is their sum. A span is a number, an optional fraction and a unit, such as
-/// `1.5d`. Digits are ASCII. Unicode whitespace is allowed everywhere but in a unit. Trailing zeros of a fraction are ignored. The string
-/// `0`, without a unit or whitespace, is the zero duration.
+/// `1.5d`. Digits are ASCII. Unicode whitespace is allowed around spans and their parts, and between digits. Trailing zeros of a fraction are
+/// ignored. The string `0`, without a unit or whitespace, is the zero duration.
 ///
 /// A unit is a word of the table in `docs/DURATIONS.md`, such as `ns`, `us` or `µs`, `ms`, `s`, `m`, `h`, `d`, `w`, `M` (a month of 30.44
 /// days), `y` (a year of 365.25 days), `min`, `hours` or `months`. Case matters.
