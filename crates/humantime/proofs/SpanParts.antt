@@ -81,6 +81,9 @@ fraction_extended f ds c p h is some few power =
       fits = rw power (omega (arith, sum, below, digit_range c is, pow-le-pow_right {n = 10} (omega arith) {i = 1} {j = k} (omega (arith, within))));
     }
 
+-- What the first digit of a number needs.
+pub ruleset numbers = (first_digit, digit_is)
+
 -- What appending a digit to a fraction needs.
 pub ruleset fractions = (fewer, significant_long, significant_zero, digit_range, common_steps)
 

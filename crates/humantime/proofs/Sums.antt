@@ -1,4 +1,5 @@
 -- The sum of spans, and whether it is within the limits.
+use Rattle.std.proofs.lemmas.Bool.Decides.{nat_tests}
 use Rattle.std.proofs.lemmas.Grind.{common_steps}
 use Rattle.std.proofs.Common.{◌≡◌, ℕ, ◌+◌, ◌/◌, ◌≤◌, true, List, [], ◌∷◌, ◌++◌, Some, None, refl, arith, append_assoc, ◌⊎◌, Option, Result, Ok, Err, map, Bool, ◌&&◌, if◌then◌else◌, option_map, unwrap_or, Decides}
 use Rattle.std.specs.Prelude.{⊤}
@@ -93,3 +94,6 @@ room_from_small t (x ∷ xs) small fits = grind (arith, common_steps, (room_from
 -- Small additions do not overflow if their sum is a duration.
 pub small_have_room : (xs : List Quantity) → AllByRecursion IsSmall xs → total xs / nanos_per_second ≤ u64_max → AllHaveRoom xs
 small_have_room xs small fits = (room_tells xs).0 (room_from_small 0 xs small (grind arith))
+
+-- The tests of a sum of spans.
+pub ruleset sums = (common_steps, nat_tests)

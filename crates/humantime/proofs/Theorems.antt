@@ -218,3 +218,8 @@ earlier_in_millis a b x y = earlier a b 3 x y
 -- With nine digits nothing is rounded.
 pub earlier_in_nanos : (a b : ℤ) (x y : List ℕ) → IsPrinted a 9 x → IsPrinted b 9 y → (a <ℤ b) ↔ IsTrue (is_lt (slice_cmp nat_cmp x y))
 earlier_in_nanos a b x y p q = grind (arith, ints, (earlier a b 9 x y p q))
+
+-- What printed texts promise, and the order of printed moments.
+pub ruleset printed_texts = (printed_is_canon, text_reads)
+
+pub ruleset moments_in_order = (stamps_in_order, earlier_in_nanos)

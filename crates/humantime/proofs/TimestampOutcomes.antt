@@ -2,6 +2,7 @@
 use Rattle.std.proofs.lemmas.Grind.{common_steps}
 use Rattle.std.proofs.Common.{◌≡◌, ℕ, ◌+◌, ◌/◌, ◌%◌, ◌≤◌, List, length, drop, refl, arith, ◌++◌, rules, ◌≢◌, ap, ◌∙◌, true, slice_index, Option, None, ◌↔◌, ℤ, Bool, Result, le-leb}
 use Rattle.std.proofs.lemmas.Bool.Decides.{nat_tests}
+use Rattle.std.specs.Prelude.{⊤}
 use Rattle.std.specs.List.{AllByRecursion}
 use Rattle.humantime.specs.Timestamps.{Fields, fraction_text, fraction_digits, fields_text, IsWeak, zone_text, NoZone, date_time_text, IsStrict, IsWeakMoment, IsStrictMoment, has_two, has_digits, number_between, has_separator, has_punctuation, is_valid_date_time, has_point, weak_checks, first_failed, zone_of, fraction_part, ends_in_zone, has_t_and_zone, strict_checks}
 use Rattle.humantime.specs.Laws.{IsMarked, HasOneTimestamp}
@@ -126,3 +127,8 @@ strict_told bytes r is = let one = strict_outcome bytes in rw is (record { value
 
 pub strict_moment_is_weak : (bytes : List ℕ) (t : ℤ) → IsStrictMoment bytes t ↔ (IsWeakMoment bytes t × IsMarked bytes)
 strict_moment_is_weak bytes t = grind (arith, (strict_is_marked_weak bytes))
+
+-- Both answers, opened together.
+unfoldable pub answers_open : ⊤
+unfolding strict_answer weak_answer
+answers_open = tt

@@ -1,6 +1,6 @@
 -- The parts of a timestamp: numbers, fraction, punctuation and zone.
 use Rattle.std.proofs.Common.{◌≡◌, ℕ, suc, ◌+◌, ◌*◌, ◌<◌, List, [], ◌∷◌, length, refl, add-one, arith, rules, zero, ◌/◌, ◌^◌, ◌++◌, replicate, get_or, take, drop, ◌≢◌, sym, append_assoc, drop-cons, drop_of_length-le}
-use Rattle.std.specs.Prelude.{◌-◌, ◌≤◌, true, slice_index, slice_range, min, if◌then◌else◌, Ok, Err, ◌==◌, ◌&&◌, codes, nat_eq}
+use Rattle.std.specs.Prelude.{⊤, ◌-◌, ◌≤◌, true, slice_index, slice_range, min, if◌then◌else◌, Ok, Err, ◌==◌, ◌&&◌, codes, nat_eq}
 use Rattle.std.specs.Int.{IsInRange}
 use Rattle.std.proofs.lemmas.Bool.Decides.{nat_tests}
 use Rattle.std.proofs.lemmas.Str.{digit_value_digit}
@@ -11,7 +11,7 @@ use Rattle.std.specs.Str.{all_ascii_digits, byte}
 use Rattle.std.specs.Str.Parse.{digits_value_after}
 use Rattle.std.proofs.Math.Nat.{pow-suc, mul-le-mul_left, div-div-eq-div-mul}
 use Rattle.std.proofs.lemmas.List.{take-append-drop, drop_more}
-use Rattle.humantime.specs.Timestamps.{has_two, number_between, zone_of, before_zone, fraction_nanos, Fields, fraction_text, date_time_text, IsWeak, Zone, zone_text}
+use Rattle.humantime.specs.Timestamps.{has_t_and_zone, has_point, has_two, number_between, zone_of, before_zone, fraction_nanos, Fields, fraction_text, date_time_text, IsWeak, Zone, zone_text}
 use Rattle.humantime.specs.declared.date.error.TimestampError.TheVariants.{InvalidDigit}
 use Rattle.humantime.specs.StepsOfCalls.{digits_answer}
 use Rattle.humantime.proofs.Dates.{valid_from_test}
@@ -155,3 +155,15 @@ plain_bytes = grind arith
 pub zone_found : (xs : List ℕ) (z : Zone) → AllByRecursion IsPlain xs → zone_of (xs ++ zone_text z) ≡ z
 unfolding zone_of
 zone_found xs z h = grind (arith, common_steps, (sym (append_assoc xs (codes "+00:0") (codes "0"))))
+
+-- What the test for a zone needs.
+pub ruleset zones = (zero_offset_at_end, nat_tests)
+
+-- The definitions of zones and of fractions, opened together.
+unfoldable pub zones_open : ⊤
+unfolding has_t_and_zone zone_of
+zones_open = tt
+
+unfoldable pub fractions_open : ⊤
+unfolding has_point fraction_nanos
+fractions_open = tt

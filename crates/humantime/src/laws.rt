@@ -333,7 +333,7 @@ pub fn printed_moment_reads(x: &Rfc3339Timestamp)
 /// let second = format_rfc3339_nanos(later).text(&mut other).ok_or("out of range")?;
 /// assert!(rt; first.as_bytes() < second.as_bytes());
 /// ```
-#[tactic(auto, using(crate::proofs::Theorems::stamps_in_order, crate::proofs::Theorems::earlier_in_nanos))]
+#[tactic(auto, using(crate::proofs::Theorems::moments_in_order))]
 pub fn stamps_in_order(a: SystemTime, b: SystemTime)
     ensures order { PrintInOrder a b }
     ensures nanos { (x : List ℕ) (y : List ℕ) → IsPrinted a 9 x → IsPrinted b 9 y → (a <ℤ b) ↔ IsTrue (is_lt (slice_cmp nat_cmp x y)) }

@@ -332,7 +332,7 @@ fn fit_len(text: &str, strict: bool) -> usize
 }
 
 /// Returns the bytes of the first number that is out of its bounds.
-#[tactic(auto, using(crate::proofs::Inside::fields), unfolding(crate::specs::Located::wrong_field, humantime::specs::Timestamps::has_digits))]
+#[tactic(auto, using(crate::proofs::Inside::fields), unfolding(crate::proofs::Inside::fields_open))]
 fn wrong_field(bytes: &[u8]) -> (usize, usize)
     requires long { 19 ≤ length bytes.now }
     requires digits { has_digits bytes.now ≡ true }
@@ -362,7 +362,7 @@ fn wrong_field(bytes: &[u8]) -> (usize, usize)
 }
 
 /// Returns the number that two digits represent.
-#[tactic(auto, using(humantime::proofs::TimestampParts::has_two_from_test, humantime::proofs::TimestampParts::number_of_two))]
+#[tactic(auto, using(crate::proofs::Inside::pairs))]
 fn pair(bytes: &[u8], at: usize) -> u32
     requires long { at + 2 ≤ length bytes.now }
     requires digits { has_two bytes.now at ≡ true }

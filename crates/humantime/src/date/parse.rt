@@ -115,7 +115,7 @@ pub fn parse_rfc3339(s: &str) -> Result<SystemTime, TimestampError>
 
 /// Parses the bytes of a timestamp in the strict format. Returns the time, or the error of the first check that fails.
 #[inline(always)]
-#[tactic(auto, unfolding(crate::specs::TimestampResults::strict_answer, crate::specs::TimestampResults::weak_answer))]
+#[tactic(auto, unfolding(crate::proofs::TimestampOutcomes::answers_open))]
 fn read_strict(bytes: &[u8]) -> Result<SystemTime, TimestampError>
     ensures { result ≡ strict_answer bytes.now }
 {
@@ -127,7 +127,7 @@ fn read_strict(bytes: &[u8]) -> Result<SystemTime, TimestampError>
 
 /// Returns `true` if the string has at least 20 bytes, byte 10 is a `T`, and a zone is at the end.
 #[inline(always)]
-#[tactic(auto, unfolding(crate::specs::Timestamps::has_t_and_zone, crate::specs::Timestamps::zone_of))]
+#[tactic(auto, unfolding(crate::proofs::TimestampParts::zones_open))]
 fn has_t_and_zone(bytes: &[u8]) -> bool
     ensures { result ≡ Checks.has_t_and_zone bytes.now }
 {
@@ -149,7 +149,7 @@ fn before_zone(bytes: &[u8]) -> &[u8]
 
 /// Returns `true` if the last six bytes are `+00:00`.
 #[inline(always)]
-#[tactic(auto, using(crate::proofs::TimestampParts::zero_offset_at_end, std::proofs::lemmas::Bool::Decides::nat_tests))]
+#[tactic(auto, using(crate::proofs::TimestampParts::zones))]
 fn ends_in_zero_offset(bytes: &[u8]) -> bool
     ensures { result ≡ Checks.ends_in ZeroOffset bytes.now }
 {
@@ -176,7 +176,7 @@ fn read_timestamp(bytes: &[u8]) -> Result<SystemTime, TimestampError>
 
 /// Returns the error of a string for which [`parse_date_time`] returns `None`. If the punctuation is right, a digit is wrong.
 #[inline(always)]
-#[tactic(auto, using(std::proofs::lemmas::Bool::Decides::nat_tests), unfolding(crate::proofs::Checks::marks_open))]
+#[tactic(auto, using(crate::proofs::Checks::checks), unfolding(crate::proofs::Checks::marks_open))]
 fn layout_error(bytes: &[u8]) -> TimestampError
     requires long { 19 ≤ length bytes.now }
     requires separator { IsTrue (Checks.has_separator bytes.now) }
@@ -241,7 +241,7 @@ fn unix_seconds(when: DateTime) -> Option<u64>
 /// Returns the nanoseconds of the fraction in the bytes after the seconds, or 0 if there is no fraction. A zone may follow. Returns an
 /// error if the bytes have any other format.
 #[inline(always)]
-#[tactic(auto, unfolding(crate::specs::Timestamps::has_point, crate::specs::Timestamps::fraction_nanos))]
+#[tactic(auto, unfolding(crate::proofs::TimestampParts::fractions_open))]
 fn fraction_after_seconds(rest: &[u8]) -> Result<u32, TimestampError>
     ensures { result ≡ fraction_answer (Checks.before_zone rest.now) }
 {

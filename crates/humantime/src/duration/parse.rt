@@ -107,7 +107,7 @@ pub fn spans(s: &str) -> SpanIter<'_>
 
 /// Returns the sum of the spans of a string, or the string's first error.
 #[inline(always)]
-#[tactic(auto, using(std::proofs::lemmas::Bool::Decides::nat_tests), unfolding(crate::specs::Walks::sum_spans))]
+#[tactic(auto, using(crate::proofs::Sums::sums), unfolding(crate::specs::Walks::sum_spans))]
 fn sum_of<'a>(text: &'a str) -> Result<StdDuration, DurationError<'a>>
     ensures value { result_view result ≡ sum_spans 0 (map span_in (item_views (chars text.now))) }
     ensures place { IfErr result (PointsInto text.now) }

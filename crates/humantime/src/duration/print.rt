@@ -201,7 +201,7 @@ impl FormattedDuration {
     /// let mut buf = [0; 64];
     /// assert_eq!(rt; format_duration(StdDuration::from_secs(90)).text(&mut buf), "1m 30s");
     /// ```
-    #[tactic(auto, using(crate::proofs::Theorems::printed_is_canon, crate::proofs::Theorems::text_reads))]
+    #[tactic(auto, using(crate::proofs::Theorems::printed_texts))]
     pub fn text<'b>(&self, buf: &'b mut [u8; 64]) -> &'b str
         ensures canon { IsCanonicalText self.now result.now }
         ensures text { result.now ≡ duration_text self.now }

@@ -99,7 +99,7 @@ pub(crate) fn begins_with_digit(text: &str) -> bool
 /// Reads the digits at the start of the string, with the whitespace between and after them. Returns the number and the rest, or `None` if its
 /// value does not fit in a `u64`. The string must begin with a digit.
 #[inline(always)]
-#[tactic(auto, using(crate::proofs::Offsets::rests, crate::proofs::SpanParts::first_digit, crate::proofs::Characters::digit_is))]
+#[tactic(auto, using(crate::proofs::Offsets::rests, crate::proofs::SpanParts::numbers))]
 pub(crate) fn read_number(text: &str) -> Option<(Number<'_>, &str)>
     requires { begins is_digit (chars text.now) ≡ true }
     ensures read { read_view number_view result ≡ reader.read_number (chars text.now) }
