@@ -36,7 +36,7 @@ use unicode_width::UnicodeWidthStr;
 pub struct Located<E> {
     /// Why the string is rejected.
     pub error: E,
-    /// The offset of the first byte that is wrong.
+    /// The start of the range: the offset of the first byte that is wrong, or at which something is missing.
     pub start: usize,
     /// The end of the range, exclusive. It is `start` if something is missing there.
     pub end: usize,
@@ -192,10 +192,10 @@ pub fn parse_duration(text: &str) -> Result<StdDuration, Located<DurationError<'
 ///
 /// Returns its error with the bytes that are wrong:
 ///
-/// - if the first 19 bytes are not of the format `0000-00-00 00:00:00`, the first character that cannot be there, or the end of the
+/// - if the first 19 bytes are not of the format `0000-00-00 00:00:00` (or with `T`), the first character that cannot be there, or the end of the
 ///   string if it ends before that;
 /// - else, if a number is out of range, the first of these, such as the day;
-/// - else what follows the longest timestamp at the start of the string.
+/// - else what follows the longest start of the string that has the format.
 ///
 /// # Examples
 ///
@@ -224,7 +224,7 @@ pub fn parse_rfc3339_weak(text: &str) -> Result<SystemTime, Located<TimestampErr
 ///
 /// # Errors
 ///
-/// Returns its error with the bytes that are wrong, as [`parse_rfc3339_weak`] does, but with a number that is out of range only if the
+/// Returns its error with the bytes that are wrong, as [`parse_rfc3339_weak`] does, but the range is that of a number only if the
 /// error is `OutOfRange`. A space in place of the `T` is wrong. If only the zone is missing, the range is empty, at the end of the string.
 ///
 /// # Examples
@@ -248,8 +248,8 @@ pub fn parse_rfc3339(text: &str) -> Result<SystemTime, Located<TimestampError>>
 
 /// Returns the range of the first span up to whose end a string overflows.
 ///
-/// It finds the number of spans that fit by binary search. Each test parses a prefix of the string, so one for each span would take
-/// quadratic time.
+/// It finds the number of spans that fit by binary search. Each test parses a prefix of the string, so a test for each span would
+/// take quadratic time.
 fn overflow_range(text: &str) -> (usize, usize)
     requires { duration_answer (chars text.now) ≡ Err NumberOverflow }
     ensures place { OverflowsAt (chars text.now) result.0 result.1 }

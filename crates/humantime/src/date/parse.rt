@@ -51,15 +51,15 @@ struct DateTime {
 /// Parses a timestamp in the weak format, such as `2018-02-14 00:28:07`, and returns the time that it represents.
 ///
 /// A `T` or a space separates the date from the time. A decimal point and any number of digits, including none, may follow the seconds; digits
-/// after the ninth are ignored. The string may end in `Z` or `+00:00`, and is always in UTC. Second 60 is read as second 59. The Rust crate
-/// `humantime` defines this format, which is based on RFC 3339.
+/// after the ninth are ignored. The string may end in `Z` or `+00:00`, and is always in UTC. Second 60 is read as second 59. The format is
+/// based on RFC 3339, and on what the Rust crate `humantime` accepts; `docs/DIFFERENCES.md` lists the differences.
 ///
 /// # Errors
 ///
 /// - [`InvalidFormat`](TimestampError::InvalidFormat): the string has fewer than 19 bytes; a `-`, `T`, space or `:` is missing from its
 ///   position; or what follows the seconds begins with no decimal point, and is not empty, `Z` or `+00:00`.
-/// - [`InvalidDigit`](TimestampError::InvalidDigit): another of the first 19 bytes is not a digit; or a point after the seconds is followed
-///   by something other than digits and then nothing, `Z` or `+00:00`.
+/// - [`InvalidDigit`](TimestampError::InvalidDigit): another of the first 19 bytes is not a digit; or what follows a decimal point after
+///   the seconds is not digits, if any, and then `Z`, `+00:00` or the end.
 /// - [`OutOfRange`](TimestampError::OutOfRange): the date does not exist in the years 1970 to 9999, the hour is above 23, the minute
 ///   above 59, or the second above 60.
 ///
@@ -86,8 +86,8 @@ pub fn parse_rfc3339_weak(s: &str) -> Result<SystemTime, TimestampError>
 
 /// Parses a timestamp in the strict format, such as `2018-02-14T00:28:07Z`, and returns the time that it represents.
 ///
-/// This is the weak format with a `T` between the date and the time, and `Z` or `+00:00` at the end. It is based on RFC 3339. Other time
-/// zones, lowercase letters and years before 1970, which RFC 3339 allows, are rejected. A point without digits and second 60 in any
+/// This is the weak format with a `T` between the date and the time, and `Z` or `+00:00` at the end. It is based on RFC 3339. Other UTC
+/// offsets, lowercase letters and years before 1970, which RFC 3339 allows, are rejected. A decimal point without digits and second 60 in any
 /// minute, which RFC 3339 does not allow, are accepted.
 ///
 /// # Errors

@@ -1,4 +1,4 @@
-//! Parses whole strings: [`parse_duration`] adds up what [`spans`] yields.
+//! Parses whole strings: [`parse_duration`] adds up what [`spans`] yields, and accepts `0`.
 
 ghost use Rattle.std.specs.Prelude.{◌≡◌, ◌≤◌, ◌*◌, ◌/◌, ◌^◌, if◌then◌else◌, IsTrue, None, SomeIff, chars, map, IfErr};
 ghost use Rattle.humantime.specs.Characters.{max_fraction_digits, u64_max};

@@ -150,7 +150,7 @@ impl Model for FormattedDuration {
 
 /// Returns a value that prints the duration `val`, such as `2h 37m`.
 ///
-/// The format is that of the Rust crate `humantime`: counts of years (365.25 days), months (30.44 days), days, hours, minutes, seconds,
+/// The format is that of the Rust crate `humantime` with its feature `mu`: counts of years (365.25 days), months (30.44 days), days, hours, minutes, seconds,
 /// milliseconds, microseconds and nanoseconds, largest unit first, each as large as possible, with a space between them. Counts of zero
 /// are left out. The units are written `year`, `month` and `day`, with an `s` if the count is above 1, and `h`, `m`, `s`, `ms`, `µs` (with
 /// the micro sign U+00B5) and `ns`. A duration of zero is `0s`. The string has at most 64 bytes.
