@@ -1,33 +1,11 @@
 //! Drawn documents with at most one wrong value each: what is marked is what was put as wrong.
 
-use humantime::{StdDuration, SystemTime};
-use humantime_settings::{AsText, SettingsError, from_json, from_toml};
-use serde::Deserialize;
+use crate::marks::Table;
+use humantime_settings::{SettingsError, from_json, from_toml};
 use std::alloc::{AllocError, Global};
-use std::collections::BTreeMap;
 use std::ops::RangeInclusive;
 use std::process::Abort;
 use std::test::Fail;
-
-type Wait = AsText<StdDuration>;
-
-/// The document, or a table in it.
-#[derive(Debug, Drop, Deserialize)]
-#[serde(recursive)]
-struct Table {
-    wait: Option<Wait>,
-    since: Option<AsText<SystemTime>>,
-    list: Option<Vec<Wait>>,
-    grid: Option<Vec<Vec<Wait>>>,
-    named: Option<BTreeMap<String, Wait>>,
-    #[serde(rename = "a.b")]
-    dotted: Option<Wait>,
-    a: Option<BTreeMap<String, Wait>>,
-    #[serde(recursive)]
-    one: Option<Box<Table>>,
-    #[serde(default, recursive)]
-    many: Vec<Table>,
-}
 
 /// Names, and the texts of which each stands for one. In a text, angle brackets have a name or, behind a single quote, a key or, behind a
 /// double quote, the text of a string.

@@ -55,13 +55,22 @@ const JSON_JOB: &str = r#"{"name": "é ", "every": "5us", "since": "2018-02-14T0
 
 const JSON: &[Case<'static>] = &[
     (r#"{"timeout":"2h 7","job":{"name":"é","every":"1d","since":"2018-02-14T00:28:07Z"}}"#, 1, 17, "", "time unit needed, for example 7sec or 7ms"),
+    ("{\n  \"timeout\": \"2h\",\n  \"job\": JOB,\n\t\"zone\": \"\"\n}", 4, 11, "", "timestamp format is invalid"),
     // Characters of several bytes before the fault: its offset in the message counts bytes from the value, and its column characters.
     ("{\n  \"timeout\": \"2h\",\n  \"job\": {\"name\": \"é 5µs x\", \"every\": \"5µs x\", \"since\": \"2018-02-14T00:28:07Z\"}\n}", 3, 44, "x", "expected number at 5"),
     ("{\n  \"timeout\": \"2h\",\n  \"job\": {\"name\": \"é \", \"every\": \"5us\", \"since\": \"2018-02-30T00:28:07Z\"}\n}", 3, 59, "30", "numeric component is out of range"),
     ("{\n  \"timeout\": 2,\n  \"job\": JOB\n}", 2, 14, "", "expected a duration in quotes"),
+    ("{\n  \"timeout\": \"2h\",\n  \"job\": {\"name\": \"é \", \"every\": \"5us\", \"since\": \"2018-02-14T00:28:07Z\", \"keep\": \"\\u0031h\\t2 \\\"\"}\n}", 3, 94, "\\\"", "invalid character at 5"),
+    (r#"{"timeout":"2h","pauses":["1s","2s","1 é"],"job":{}}"#, 1, 40, "é", "invalid character at 2"),
+    (r#"{"timeout":"2h","days":{"a":"2018-02-14 00:28:07","b":"1h"}}"#, 1, 57, "h", "timestamp format is invalid"),
     // An overflow, which is marked at its span.
     (r#"{"timeout":"1h 1.5ns"}"#, 1, 16, "1.5ns", "number is too large or cannot be represented without a lack of precision (values below 1ns are not supported)"),
+    ("{\r\n\r\n\r\n\r\n\"pauses\":[\"1s\",\"1h x\"]}", 5, 20, "x", "expected number at 3"),
+    ("{\"timeout\":\"1s \\\\\"}", 1, 16, "\\\\", "expected number at 3"),
+    // What is no string.
     (r#"{"timeout":null}"#, 1, 12, "", "expected a duration in quotes"),
+    (r#"{"timeout":"2h","days":{"a":null}}"#, 1, 29, "", "expected a timestamp in quotes"),
+    (r#"{"timeout":"2h","zone":90}"#, 1, 24, "", "expected a timestamp in quotes"),
     // Values of a wrong type for fields that are not of this crate.
     (r#"{"timeout":"2h","counts":[1,true]}"#, 1, 29, "", "invalid type: boolean"),
     (r#"{"timeout":"2h","counts":[1, null]}"#, 1, 30, "", "invalid type: null"),
@@ -69,8 +78,10 @@ const JSON: &[Case<'static>] = &[
     (r#"{"timeout":"2h","counts":[[2]]}"#, 1, 27, "", "invalid type: sequence"),
     (r#"{"timeout":"2h","counts": {}}"#, 1, 27, "", "invalid type: map"),
     (r#"{"timeout":"2h","more.every":-7}"#, 1, 30, "", "invalid type: number"),
-    // A number that does not fit.
+    (r#"{"timeout":"2h","job":false}"#, 1, 23, "", "invalid type: boolean"),
+    // A number that does not fit, and a key that stands twice.
     (r#"{"counts":[1, 9223372036854775808 ]}"#, 1, 15, "", "invalid value: number `9223372036854775808`"),
+    ("{\"timeout\":\"2h\",\n \"timeout\" :\n\"2h\"}", 2, 2, "", "duplicate field `timeout`"),
     // A field that stands twice, whose value is read first or not, and is a string, a list or a map; and a key with an escape.
     ("{\"timeout\":\"2h\",\"time\\u006fut\":\"\\\"\"}", 1, 17, "", "duplicate field `timeout`"),
     (r#"{"limit":"1s","timeout":"2h"}"#, 1, 15, "", "duplicate field `timeout`"),
@@ -80,12 +91,14 @@ const JSON: &[Case<'static>] = &[
     // What is missing, unknown or cut.
     ("{\"timeout\":\"2h\",\n\"job\":{ \"nm\\u0061e\\n\":1}}", 2, 9, "", "unknown field `nmae\n`"),
     ("{\n  \"timeout\": \"2h\",\n  \"job\": {\"name\": \"é\", \"every\": \"5us\"}\n}", 3, 38, "", "missing field `since`"),
+    ("{\"timeout\":\"2h\",\n\"job\":{\"nmae\":\"é\"}}", 2, 8, "", "unknown field `nmae`"),
     (r#"{"timeout":"2h""#, 1, 15, "", "EOF while parsing"),
     // Fields that are lists or maps, with a wrong item, or with what is no list and no map.
     (r#"{"waits":["1s","2s 1~"]}"#, 1, 21, "~", "invalid character at 4"),
     (r#"{"waits":["1s",null]}"#, 1, 16, "", "expected a duration in quotes"),
     (r#"{"ends":{"a":1}}"#, 1, 14, "", "expected a timestamp in quotes"),
     (r#"{"waits":"1s"}"#, 1, 10, "", "invalid type: string"),
+    (r#"{"waits":null}"#, 1, 10, "", "invalid type: null"),
     // At most one byte.
     ("", 1, 1, "", "EOF while parsing"),
     ("{", 1, 1, "", "EOF while parsing"),
@@ -98,36 +111,68 @@ const TOML_JOB: &str = "[job]\nname = \"5µs x\"\nevery = \"1d\"\nsince = \"2018
 
 const TOML: &[Case<'static>] = &[
     ("timeout = \"2h 7\"\nJOB", 1, 16, "", "time unit needed, for example 7sec or 7ms"),
+    ("timeout = '2h'\nJOB\nkeep = '1h 5µs x' # '1h'", 6, 16, "x", "expected number at 8"),
+    ("zone = '1h'\ntimeout = '2h'\nJOB", 1, 10, "h", "timestamp format is invalid"),
     ("JOB", 1, 1, "", "missing field `timeout`"),
     ("# every = '5µs x'\ntimeout = '2h'\nJOB\n[[more]]\nname = 'a'\nevery = '5µs x'\nsince = ''", 9, 14, "x", "expected number at 5"),
+    ("timeout = '2h'\nJOB\n[[more]]\nname = 'a'\nevery = '1s'\nsince = '2018-02-14 00:28:07'\n[[more]]\nname = 'a'\nevery = '1s'\nsince = '2018-02-30 00:28:07'\n", 13, 18, "30", "numeric component is out of range"),
+    ("timeout = '2h'\nmore = [\n  { name = 'b', # [\n    every = '1 s é' },\n]\nJOB", 4, 18, "é", "expected number at 4"),
+    ("\"timeout\" = '1~'\nJOB", 1, 15, "~", "invalid character at 1"),
+    ("timeou = '1~'\ntimeout = '1~'\nJOB", 2, 13, "~", "invalid character at 1"),
+    ("timeouts = '1~'\ntimeout = '1~'\nJOB", 2, 13, "~", "invalid character at 1"),
+    ("timeout = '1s'\ndays.a = '2018-02-14 00:28:07'\ndays . \"b\" = '2018-02-14'\nJOB", 3, 25, "", "timestamp format is invalid"),
+    ("timeout = '1s'\npauses = [ '1s', # '1 é'\n '2s' , '1 é' ]\nJOB", 3, 12, "é", "invalid character at 2"),
+    ("timeout = \"\"\"\n1s\n2s x\"\"\"\nJOB", 3, 4, "x", "expected number at 6"),
+    ("timeout = \"\\u0031d\\t2 ~\"\nJOB", 1, 23, "~", "invalid character at 5"),
     // Behind keys that are a character shorter or longer, or have a dot.
     ("timeou = '1~'\ntimeouts = '1~'\ntime.out = '1~'\ntimeout = '1~'\nJOB", 4, 13, "~", "invalid character at 1"),
+    ("time.out = '1~'\ntimeout = '1~'\nJOB", 2, 13, "~", "invalid character at 1"),
+    // What is no string.
     ("timeout = 30\nJOB", 1, 11, "", "expected a duration in quotes"),
+    ("timeout = [ '2h' ]\nJOB", 1, 11, "", "expected a duration in quotes"),
+    ("timeout = '2h'\npauses = [ '1s', 2, '3s' ]\nJOB", 2, 18, "", "expected a duration in quotes"),
     ("timeout = '2h'\nzone = 2018-02-14 00:28:07Z # UTC\nJOB", 2, 8, "", "expected a timestamp in quotes"),
+    ("timeout = { a = '2h' }\nJOB", 1, 11, "", "expected a duration in quotes"),
     ("timeout = '2h'\npauses = '1s'\nJOB", 2, 10, "", r#"invalid type: string "1s", expected a sequence"#),
+    ("timeout = '2h'\npauses = [ '1s', [ '2s' ], [ '3s' ] ]\nJOB", 2, 18, "", "expected a duration in quotes"),
     ("timeout = '2h'\nJOB\n[[pauses]]\na = '1s'\n", 6, 1, "", "expected a duration in quotes"),
     ("timeout = '1.5ns'\nJOB", 1, 12, "1.5ns", "number is too large or cannot be represented without a lack of precision (values below 1ns are not supported)"),
+    ("timeout = '1s'\npauses = ['1s', '2s']\nzone = '1h'\nJOB", 3, 10, "h", "timestamp format is invalid"),
+    ("timeout = '1s'\ndays = { a = '2018-02-14 00:28:07' }\nzone = '1h'\nJOB", 3, 10, "h", "timestamp format is invalid"),
     // A key behind an array, and behind tables whose last keys are the same.
     ("more = []\nx = [[1, 2], [{ y = 3 }]]\ntimeout = '1x'\nJOB", 3, 13, "x", r#"unknown time unit "x", supported units: ns, us/µs, ms, sec, min, hours, days, weeks, months, years (and few variations)"#),
+    ("x = 1 # y, ['\ny = { a = 1.5, b = true } # ]\nz = [1, 2] # {\ntimeout = '1~'\nJOB", 4, 13, "~", "invalid character at 1"),
+    ("x = 7\r\ny = true\r\ntimeout = '1~'\r\nJOB", 3, 13, "~", "invalid character at 1"),
+    ("timeout = '1s'\nJOB\n[ \t\"days\" ] # days\na = '1h'\n", 7, 7, "h", "timestamp format is invalid"),
     ("timeout = '1s'\nJOB\n[x.job]\nevery = '1~'\n[x.days]\na = '1h'\n[days]\na = '2h'\n", 11, 7, "h", "timestamp format is invalid"),
     // A header makes a map, and one in two brackets a list.
     ("timeout = '2h'\nJOB\n[counts]\na = 1\n", 6, 1, "", "invalid type: map, expected a sequence"),
     ("timeout = '2h'\nJOB\n[['more.every']]\n[['more.every']]\n", 6, 1, "", "invalid type: sequence, expected a string"),
     // Numbers that JSON does not have, and texts that it has for them.
+    ("timeout = inf\nJOB", 1, 11, "", "expected a duration in quotes"),
+    ("timeout = '2h'\nJOB\nkeep = -nan # null\n", 6, 8, "", "expected a duration in quotes"),
     ("timeout = '2h'\nx = [nan, ',null,', -inf]\nnull = [[nan], inf]\nzone = 5\nJOB", 4, 8, "", "expected a timestamp in quotes"),
     // Items of one list, of different types: the first that is no integer.
     ("timeout = '2h'\ncounts = [ 1, true, 2.5 ]\nJOB", 2, 15, "", "invalid type: boolean `true`, expected an integer"),
+    ("timeout = '2h'\ncounts = [ 1, 2.5, true ]\nJOB", 2, 15, "", "invalid type: floating point `2.5`, expected an integer"),
     ("timeout = '2h'\ncounts = [ 1, 2.0, true ]\nJOB", 2, 15, "", "invalid type: floating point `2.0`, expected an integer"),
     ("timeout = '2h'\ncounts = [ 1, { a = 1 } ]\nJOB", 2, 15, "", "invalid type: map, expected an integer"),
     ("timeout = '2h'\ncounts = [ 1, 1979-05-27 ]\nJOB", 2, 15, "", "invalid type: map, expected an integer"),
+    ("timeout = '2h'\ncounts = [1, 2.0]\nJOB", 2, 14, "", "invalid type: floating point `2.0`, expected an integer"),
+    ("timeout = '2h'\npairs = [[1], -1]\nJOB", 2, 15, "", "invalid type: integer `-1`, expected a sequence"),
+    ("timeout = '2h'\nends.a = ['2018-02-14 00:28:07']\nJOB", 2, 10, "", "expected a timestamp in quotes"),
+    ("timeout = '2h'\ncounts = [1, [2]]\nJOB", 2, 14, "", "invalid type: sequence, expected an integer"),
     // An item that is an array of the wrong type, and not the array that it is in.
     ("timeout = '2h'\ncounts = [1, [[2], 3], [4]]\nJOB", 2, 14, "", "invalid type: sequence, expected an integer"),
     ("timeout = '2h'\npairs = [[1], [1, 2], [[1], 2], [[3]]]\nJOB", 2, 24, "", "invalid type: sequence, expected an integer"),
     ("timeout = '2h'\npairs = [[1], 1, [true]]\nJOB", 2, 15, "", "invalid type: integer `1`, expected a sequence"),
     ("timeout = '2h'\ncounts = [0x1F, +1_0, -2, 9_9.5]\nJOB", 2, 27, "", "invalid type: floating point `99.5`, expected an integer"),
     // Two values whose keys have the same text: the one that has the error.
+    ("timeout = '2h'\n'more.every' = 'x'\nJOB\n[[more]]\nname = 'a'\nevery = '5 é'\nsince = '2018-02-14 00:28:07'\n", 9, 12, "é", "invalid character at 2"),
+    ("timeout = '2h'\n'job.every' = 5\n[job]\nname = 'a'\nevery = 7\nsince = '2018-02-14 00:28:07'", 5, 9, "", "expected a duration in quotes"),
     ("timeout = '2h'\n[job]\nname = 'a'\nevery = 7\nsince = '2018-02-14 00:28:07'\n['job.every']", 4, 9, "", "expected a duration in quotes"),
     ("timeout = '2h'\n'job.every' = '1~'\n[job]\nname = 'a'\nevery = '1~'\nsince = '2018-02-14 00:28:07'", 5, 11, "~", "invalid character at 1"),
+    ("timeout = '2h'\n'job.name' = 5\n[job]\nname = 5\n", 4, 8, "", "invalid type: integer `5`, expected a string"),
     ("timeout = '2h'\n'more.every' = 5\nJOB\n[[more]]\nname = 'a'\nsince = '2018-02-14 00:28:07'\n[more.every]", 10, 1, "", "expected a duration in quotes"),
     ("timeout = '2h'\n'more.every' = 5\nJOB\n[[more]]\nname = 'a'\nevery = '1s'\nsince = '2018-02-14 00:28:07'\n", 2, 16, "", "invalid type: integer `5`, expected a string"),
     ("timeout = '2h'\n'more.every' = '1~'\nJOB\n[[more]]\nname = 'a'\nevery = '1~'\nsince = '2018-02-14 00:28:07'\n", 9, 11, "~", "invalid character at 1"),
@@ -140,6 +185,8 @@ const TOML: &[Case<'static>] = &[
     // Documents that TOML rejects.
     ("timeout = \"2h\nJOB", 1, 14, "", "invalid string"),
     ("timeout = '2h'\ntimeout = '2h'\nJOB", 2, 1, "", "duplicate key"),
+    // A byte order mark.
+    ("\u{feff}# a comment\ntimeout = '1h x'\nJOB", 2, 15, "x", "expected number at 3"),
     // Fields that are lists or maps, with a wrong item, or with what is no map.
     ("waits = ['1s', '2s 1~']", 1, 21, "~", "invalid character at 4"),
     ("waits = ['1s', 2]", 1, 16, "", "expected a duration in quotes"),

@@ -14,7 +14,7 @@ type Wait = AsText<StdDuration>;
 /// The document, or a table in it.
 #[derive(Debug, Drop, Deserialize)]
 #[serde(recursive)]
-struct Table {
+pub(crate) struct Table {
     wait: Option<Wait>,
     since: Option<AsText<SystemTime>>,
     list: Option<Vec<Wait>>,

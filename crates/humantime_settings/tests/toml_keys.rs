@@ -69,6 +69,7 @@ const KEYS: &[Case<'static>] = &[
     ("counts.1s = 1\ncounts.'~' = 1", 2, 9, "~", "expected number at 0"),
     ("[ counts . '1~' ]\n", 1, 14, "~", "invalid character at 1"),
     ("counts.'1~'.x = 1\ncounts.'1~'.y = 1", 1, 10, "~", "invalid character at 1"),
+    ("counts.'1~'.a = 1\ncounts.'1~'.b = 1\ncounts.'1~'.c = 1\ncounts.'1~'.d = 1\ncounts.'1~'.e = 1\ncounts.'1~'.f = 1\ncounts.'1~'.g = 1\ncounts.'1~'.h = 1\ncounts.'1~'.i = 1\n", 1, 10, "~", "invalid character at 1"),
     // A key that would be no duration, and keys whose text is the same.
     ("texts.x = '~'", 1, 12, "~", "expected number at 0"),
     ("'part.every' = 1", 1, 1, "", "unknown field `part.every`"),
@@ -102,6 +103,9 @@ const KEYS: &[Case<'static>] = &[
     ("mode.Slwo = 1", 1, 6, "", "unknown variant `Slwo`"),
     ("[mode]\nSlwo = 1", 2, 1, "", "unknown variant `Slwo`"),
     ("modes = ['Fast', 'Slwo', 'Slwo']", 1, 18, "", "unknown variant `Slwo`"),
+    ("modes = ['Fast', 'Slwo']", 1, 18, "", "unknown variant `Slwo`"),
+    ("modes = ['Slwo', 'Fast', 'Fast']", 1, 10, "", "unknown variant `Slwo`"),
+    ("modes = ['Fast', 'Slwo', 'Fast', 'Fast', 'Fast', 'Fast']", 1, 18, "", "unknown variant `Slwo`"),
     ("modes = ['Slwo', { Slwo = 1 }]", 1, 10, "", "unknown variant `Slwo`"),
     ("modes = [{ Slow = 1 }, { Slwo = 2 }, { Slwo = 3 }]", 1, 26, "", "unknown variant `Slwo`"),
     // Other errors are marked at the only place with their keys, and among several if other values in these places show it.
