@@ -131,7 +131,9 @@ fn read_strict(bytes: &[u8]) -> Result<SystemTime, TimestampError>
 fn has_t_and_zone(bytes: &[u8]) -> bool
     ensures { result ≡ Checks.has_t_and_zone bytes.now }
 {
-    bytes.len() >= 20 && bytes[10] == b'T' && before_zone(bytes).len() < bytes.len()
+    bytes.len() >= 20
+        && bytes[10] == b'T'
+        && (matches!(bytes, [.., b'Z']) || ends_in_zero_offset(bytes))
 }
 
 /// Returns the bytes before the zone (`Z` or `+00:00`) at the end, or all of them if there is no zone.
