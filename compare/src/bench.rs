@@ -137,7 +137,7 @@ fn race_reading<T: PartialEq + Debug, E: PartialEq + Debug, R>(
     assert_eq!(parser.by_crate(text).as_ref(), Ok(&answer), "{shown}");
     let noun = parser.name.split(',').next().expect("a word");
     let verb = if answer.is_ok() { "parse" } else { "reject" };
-    let kind = if text.len() > 100 { "parse or reject a long text".into() } else { format!("{verb} a {noun}{how}") };
+    let kind = if text.len() > 100 { "parse or reject a long string".into() } else { format!("{verb} a {noun}{how}") };
     race(
         (&kind, &format!("{verb} {shown}, {}{how}", parser.name)),
         (parse("0"), |place| crate_read(&parse, hidden(&text), place)),

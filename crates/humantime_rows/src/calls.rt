@@ -115,7 +115,7 @@ fn duration(numbers: &mut SplitWhitespace<'_>) -> Option<StdDuration> {
     StdDuration::checked_new(number(numbers)?, number(numbers)?)
 }
 
-/// Parses the seconds and nanoseconds of a moment.
+/// Parses the seconds and nanoseconds of a time.
 fn moment(numbers: &mut SplitWhitespace<'_>) -> Option<SystemTime> {
     SystemTime::from_parts(number(numbers)?, number(numbers)?)
 }

@@ -8,7 +8,7 @@ use humantime::{
 };
 use std::fmt::{self, Formatter, Write};
 
-/// Writes the string of a moment, as the call of this name prints it, or returns `None` if no call has this name.
+/// Writes the string of a time, as the call of this name prints it, or returns `None` if no call has this name.
 pub(crate) fn print<W: Write>(
     f: &mut Formatter<W>,
     call: &str,

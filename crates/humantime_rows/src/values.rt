@@ -1,4 +1,4 @@
-//! The parts of durations and moments, and their order.
+//! The parts of durations and times, and their order.
 
 use crate::writing::write_result;
 use humantime::{StdDuration, SystemTime};
@@ -10,7 +10,7 @@ pub(crate) fn parts(duration: StdDuration) -> (u64, u32) {
     (duration.as_secs(), duration.subsec_nanos())
 }
 
-/// Returns the seconds and nanoseconds of a moment.
+/// Returns the seconds and nanoseconds of a time.
 pub(crate) fn moment_parts(moment: SystemTime) -> (i64, u32) {
     (moment.unix_seconds(), moment.subsec_nanos())
 }

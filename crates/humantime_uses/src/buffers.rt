@@ -5,7 +5,7 @@ ghost use Rattle.humantime.specs.Prelude.{Fault, HasFault, IsPrintable};
 
 use humantime::{Rfc3339Timestamp, canonical};
 
-/// Prints over the string in the buffer, which is unchanged for a moment outside 1970 to 9999.
+/// Prints over the string in the buffer, which is unchanged for a time outside 1970 to 9999.
 pub fn print_over(stamp: &Rfc3339Timestamp, buf: &mut [u8; 30])
     ensures { ¬ (IsPrintable stamp.now.moment) → buf.new ≡ buf.old }
 {

@@ -35,7 +35,7 @@ pub fn errors_row(alloc: Global, limit: &DurationError<'_>, start: &TimestampErr
     format!(in alloc; "{limit:>80}, {start:^3}")
 }
 
-/// Writes a timestamp. It writes nothing for a moment outside 1970 to 9999.
+/// Writes a timestamp. It writes nothing for a time outside 1970 to 9999.
 pub fn write_timestamp<W: Write>(at: Timestamp, f: &mut fmt::Formatter<W>) -> fmt::Result
     ensures writes { DisplaysOnOk W.write_str_gives f.old result (shortest_text at) f.new }
     ensures styled { DisplaysStyledOnOk W.write_str_gives f.old result (shortest_text at) f.new }
@@ -46,7 +46,7 @@ pub fn write_timestamp<W: Write>(at: Timestamp, f: &mut fmt::Formatter<W>) -> fm
     at.fmt(f)
 }
 
-/// Writes what a printer of a timestamp prints. It writes nothing for a moment outside 1970 to 9999.
+/// Writes what a printer of a timestamp prints. It writes nothing for a time outside 1970 to 9999.
 pub fn write_stamp<W: Write>(stamp: &Rfc3339Timestamp, f: &mut fmt::Formatter<W>) -> fmt::Result
     ensures writes { DisplaysOnOk W.write_str_gives f.old result (printed_text stamp.now) f.new }
     ensures styled { DisplaysStyledOnOk W.write_str_gives f.old result (printed_text stamp.now) f.new }

@@ -168,7 +168,7 @@ pub fn strict_moment(text: &str) -> Parsed
     parse_rfc3339(text)
 }
 
-/// Prints a moment with nine digits and parses the string in both forms, which returns that moment.
+/// Prints a time with nine digits and parses the string in both formats, which returns that time.
 pub fn printed_and_parsed(moment: SystemTime) -> Option<(Parsed, Parsed)>
     ensures { SomeIff result (IsPrintable moment) (Ok moment, Ok moment) }
 {
@@ -189,7 +189,7 @@ pub fn only_text<'b>(shown: &Rfc3339Timestamp, buf: &'b mut [u8; 30]) -> Option<
     shown.text(buf)
 }
 
-/// Compares two strings with the same number of digits, which are ordered like their moments, rounded down.
+/// Compares two strings with the same number of digits, which are ordered like their times, truncated.
 pub fn order_of_texts(text: &str, other: &str, a: SystemTime, b: SystemTime) -> Ordering
     ensures order { (k : ℕ) → IsPrinted a k text.now → IsPrinted b k other.now → result ≡ int_cmp (cut a k) (cut b k) }
     ensures nanos { IsPrinted a 9 text.now → IsPrinted b 9 other.now → (IsTrue (is_lt result) ↔ (a <ℤ b)) }

@@ -12,7 +12,7 @@ use humantime::{
 use std::alloc::{AllocError, Global};
 use std::cmp::Ordering;
 
-/// Returns `true` if the moment of a line is not before `from`, or the error of the line's timestamp.
+/// Returns `true` if the time of a line is not before `from`, or the error of the line's timestamp.
 pub fn is_since(stamp: &str, from: SystemTime) -> Result<bool, TimestampError>
     ensures value { (t : ℤ) → strict_answer stamp.now ≡ Ok t → IsOkAnd result (λ since. IsTrue since ↔ (from ≤ℤ t)) }
     ensures error { (e : TimestampError) → (result ≡ Err e) ↔ (strict_answer stamp.now ≡ Err e) }
@@ -37,7 +37,7 @@ pub fn stamp_len(stamp: &Rfc3339Timestamp) -> Option<usize>
     Some(stamp.text(&mut [0; 30])?.len())
 }
 
-/// Returns a moment as a `String`, by `Display`.
+/// Returns a time as a `String`, by `Display`.
 ///
 /// Outside 1970 to 9999 it returns an error. The contract cannot say so, since `format!` does not specify its result if a `Display` fails.
 #[tactic(auto, using(humantime::proofs::Theorems::displayed_as))]
@@ -47,7 +47,7 @@ pub fn stamp_string(alloc: Global, moment: SystemTime) -> Result<String, AllocEr
     format!(in alloc; "{}", format_rfc3339(moment))
 }
 
-/// Returns `true` if a string is the printed string, with milliseconds, of the moment that it parses to.
+/// Returns `true` if a string is the printed string, with milliseconds, of the time that it parses to.
 pub fn is_stamp(text: &str) -> bool
     ensures { IsTrue result ↔ IsPrintedWith 3 text.now }
 {
@@ -60,7 +60,7 @@ pub fn is_stamp(text: &str) -> bool
     }
 }
 
-/// Compares two such stamps by their bytes, which are ordered like the moments that they denote.
+/// Compares two such stamps by their bytes, which are ordered like the times that they denote.
 #[tactic(auto, using(crate::proofs::Callers::millis_in_order))]
 pub fn compare_stamps(stamp: &str, other: &str) -> Ordering
     ensures { (a : ℤ) (b : ℤ) → IsPrintedWith 3 stamp.now → IsPrintedWith 3 other.now → strict_answer stamp.now ≡ Ok a → strict_answer other.now ≡ Ok b → result ≡ int_cmp a b }

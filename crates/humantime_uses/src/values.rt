@@ -32,7 +32,7 @@ pub fn parts_and_duration(duration: StdDuration) -> (u64, u32, StdDuration)
     (secs, nanos, StdDuration::new(secs, nanos))
 }
 
-/// Returns the seconds and the nanoseconds of a moment, and the moment of these parts, which is the same.
+/// Returns the seconds and the nanoseconds of a time, and the time of these parts, which is the same.
 pub fn parts_and_moment(moment: SystemTime) -> (i64, u32, Option<SystemTime>)
     ensures second { result.0 ≡ second_of moment }
     ensures nano { result.1 ≡ nano_of moment }
@@ -42,7 +42,7 @@ pub fn parts_and_moment(moment: SystemTime) -> (i64, u32, Option<SystemTime>)
     (secs, nanos, SystemTime::from_parts(secs, nanos))
 }
 
-/// Returns `true` if a moment is not before another, and the time between them.
+/// Returns `true` if a time is not before another, and the duration between them.
 pub fn distance(moment: SystemTime, other: SystemTime) -> (bool, StdDuration)
     ensures order { IsTrue result.0 ↔ (other ≤ℤ moment) }
     ensures later { other ≤ℤ moment → moment ≡ other +ℤ pos result.1 }
@@ -62,7 +62,7 @@ pub fn extended(limit: Duration, by: Duration) -> Option<Duration>
     Some(Duration::new(longer))
 }
 
-/// Returns the timestamp `by` after another, or `None` if no moment represents it.
+/// Returns the timestamp `by` after another, or `None` if no time represents it.
 pub fn postponed(stamp: Timestamp, by: Duration) -> Option<Timestamp>
     ensures { SomeIff result ((stamp +ℤ pos by) <ℤ moment_end) (stamp +ℤ pos by) }
 {

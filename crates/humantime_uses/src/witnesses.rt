@@ -75,7 +75,7 @@ pub fn is_same_other(a: &Others, b: &Others) -> bool
 /// A value of each type that can be hashed.
 pub type Times = (StdDuration, SystemTime, Duration, Timestamp);
 
-/// Feeds equal durations and moments to two hashers, which keeps their states equal.
+/// Feeds equal durations and times to two hashers, which keeps their states equal.
 pub fn times_feed_alike<H: Hasher>(a: &Times, b: &Times, first: &mut H, second: &mut H)
     ensures { a.now ≡ b.now → first.old ≡ second.old → first.new ≡ second.new }
 {
