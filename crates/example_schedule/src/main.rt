@@ -1,6 +1,6 @@
 //! Prints when each job of a file runs next, how long it is until then, and when a failed job runs again: `schedule FILE NOW RETRY`.
 //!
-//! A line of the file is a job's name, the time of its last run and its period, with spaces or tabs between them. RETRY is
+//! A line of the file is a job's name, the time of its last run and its interval, with spaces or tabs between them. RETRY is
 //! `FIRST..MOST xN`: the delay after the first failure, the longest delay, and how many times as long each delay is as the one before. The
 //! exit status is 0, or 2 if an argument or a line is wrong, or 1 if reading or writing fails or an allocation fails.
 #![tactic(auto)]

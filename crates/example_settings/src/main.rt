@@ -1,7 +1,7 @@
 //! Checks a settings file and prints it with canonical strings: `example_settings FILE`, with a file in TOML.
 //!
 //! The exit status is 0 if the settings are valid, 2 unless there is exactly one argument, and 1 for any other error. If the settings have
-//! an error, standard error has the name of the file, the line, the column, what is wrong, and the line with a mark under the fault.
+//! an error, standard error has the name of the file, the line, the column, what is wrong, and the line with a caret under the error.
 #![tactic(auto)]
 
 use humantime::{Duration, StdDuration, SystemTime};

@@ -82,7 +82,7 @@ fn mark_of<'a>(line: &'a str, fault: Fault<'_>) -> Underline<'a> {
     }
 }
 
-/// Returns the text of a table. A share is a whole number of percent, rounded down.
+/// Returns the text of a table. A share is a whole number of percent, truncated.
 fn table_of(alloc: Global, rows: &[Row<'_>], total: StdDuration) -> Result<String, AllocError> {
     let mut width = "longest".len();
     for row in rows {

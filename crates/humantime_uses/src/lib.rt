@@ -2,7 +2,7 @@
 //!
 //! Most are proved by public contracts, laws and theorems alone, so if one of these says less, a function is mostly no longer proved. The files
 //! `proofs/*Facts.antt` state the rules of the definitions once more, each with literals and for any value, so that a definition that
-//! changes at one value is refused.
+//! changes at one value is rejected.
 #![tactic(auto)]
 
 pub mod buffers;
