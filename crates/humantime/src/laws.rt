@@ -161,17 +161,17 @@ pub fn reordered(a: &str, b: &str)
     ensures { KeepValueReordered (chars a.now) (chars b.now) }
 {}
 
-/// States that a string accepted by an earlier rule, under which trailing zeros counted, is still accepted with the same value.
+/// States that a string accepted by the rule that trailing zeros count, as in the Rust crate, is accepted with the same value.
 ///
-/// Under that rule, trailing zeros counted towards the 19 digits that a fraction may have and towards its precision, and nanoseconds
-/// had no fraction at all. What a span adds is the same under both rules.
+/// By that rule, trailing zeros count towards the 19 digits that a fraction may have and towards its precision, and nanoseconds have no
+/// fraction at all. What a span adds is the same by both rules.
 ///
 /// # Examples
 ///
 /// ```
 /// use humantime::{StdDuration, laws, parse_duration};
 ///
-/// // The earlier rule accepted this text, but not the one with one more zero.
+/// // That rule accepts this string, but not the one with one more zero.
 /// laws::still_accepted("1.5000000000s");
 /// assert_eq!(rt; parse_duration("1.5000000000s"), Ok(StdDuration::new(1, 500_000_000)));
 /// assert_eq!(rt; parse_duration("1.50000000000s"), Ok(StdDuration::new(1, 500_000_000)));

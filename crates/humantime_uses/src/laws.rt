@@ -34,7 +34,8 @@ pub fn decided_once(text: &str) -> Result<StdDuration, DurationError<'_>>
 }
 
 /// Returns the duration that a string denotes, or its first error, as determined by its items and their limits and by the table of first
-/// errors. A string that was accepted by older rules is still accepted with the same value, and any spans add what they added.
+/// errors. A string accepted by the rule that trailing zeros count is accepted with the same value, and any spans add what they add
+/// by that rule.
 pub fn decided(text: &str) -> Result<StdDuration, DurationError<'_>>
     ensures items { (ss : List SpelledSpan) × (stop : Option Fault) × Items (chars text.now) ss stop }
     ensures accepted { (ss : List SpelledSpan) (stop : Option Fault) → Items (chars text.now) ss stop → chars text.now ≢ bare_zero → (v : ℕ) → Accepted (chars text.now) v ↔ ((stop ≡ None) × WithinLimits ss × (value ss ≡ v)) }
