@@ -74,8 +74,9 @@ def once(crates, attempt, *given):
     the failures. If all passed on this machine with the same copy, tests, scripts, kit, and values that are given, it is not made again."""
     with TemporaryDirectory(prefix=f"{attempt.__name__}-") as top:
         tests = [path for name in crates for below in BELOW[name] for path in (CRATES / below / "tests").rglob("*")]
-        paths = [*copied(top, crates).rglob("*"), *tests, *ROOT.glob("scripts/*.py"), Path(sys.argv[0])]
-        all_read = sorted((path.name, path.read_bytes()) for path in {*paths} if path.is_file() and path.suffix != ".md")
+        paths = {*copied(top, crates).rglob("*"), *tests, *ROOT.glob("scripts/*.py"), Path(sys.argv[0]).resolve()}
+        paths = {str(path).removeprefix(top).removeprefix(str(ROOT)): path for path in paths if path.is_file() and path.suffix != ".md"}
+        all_read = sorted((name, path.read_bytes()) for name, path in paths.items())
         key = run("rt", "version").stdout, crates, attempt.__name__, given, all_read
         kept = Path(os.environ.get("XDG_CACHE_HOME") or Path.home() / ".cache", "humantime", sha256(repr(key).encode()).hexdigest())
         tries, failed = (int(kept.read_text()), []) if kept.exists() else attempt(top, *given)
