@@ -39,7 +39,7 @@ def items(text):
             owner = found[4] if found[3] == "trait" else owner
         elif docs and not line.strip().startswith("#["):
             yield Item("docs", "", docs[0][0], docs)
-        if line == "}":
+        if re.match(r"\}$|\S.*\{\}$", line):
             owner, trait = "", ""
         if not re.match(r" *(//[/!]|#\[)", line):
             docs = []
@@ -71,8 +71,9 @@ def declared(item, lines):
 def entry(item, lines, found):
     """Returns the lines of a public item, and below a type what its traits promise, and its methods. A trait has those of its `impl`."""
     made = [*said(item.docs), *declared(item, lines)]
+    hidden = {"", "Model", *(other.name for other, _ in found if other.kind == "trait" and not other.is_public)}
     for other, rest in found:
-        if other.kind == "impl" and other.owner == item.name and other.trait not in ("", "Model"):
+        if other.kind == "impl" and other.owner == item.name and other.trait not in hidden:
             known = [line for line in inside(rest) if re.match(r"    (type|ghost (?!use)).*;$", line) and "Prim." not in line]
             methods = [part.head for part, _ in found if (part.owner, part.trait) == other[4:6] and "ensures" in part.head]
             made += [""] * bool(other.docs or known or methods) + said(other.docs) + [re.sub(r" \{\}?$", "", rest[2]), *known]
