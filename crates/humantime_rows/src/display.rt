@@ -1,6 +1,6 @@
 //! The string that `Display` writes with various formats.
 
-use crate::writing::all_agree;
+use crate::writing::{Compared, agree};
 use std::fmt::{self, Display, Write};
 
 /// A writer that expects one string. It compares what is written with it, stores nothing, counts the writes, and fails after a write that
@@ -35,19 +35,27 @@ pub fn is_written<D: Display + Drop>(value: D, text: &str, most: u32) -> bool {
     }
 }
 
-/// Returns whether the value is written as this string in at most `most` writes with any format, and stops at the first write that fails.
-pub(crate) fn is_always_written<T: Display>(value: &T, text: &str, most: u32) -> bool {
-    all_agree(&[
-        refused_requests(value) == 1,
-        is_written(format_args!("{value}"), text, most),
-        is_written(format_args!("{value:>80}"), text, most),
-        is_written(format_args!("{value:*<200}"), text, most),
-        is_written(format_args!("{value:.3}"), text, most),
-        is_written(format_args!("{value:+}"), text, most),
-        is_written(format_args!("{value:#}"), text, most),
-        is_written(format_args!("{value:030}"), text, most),
-        is_written(format_args!("{value:µ^+#0400.3}"), text, most),
-    ])
+/// Compares whether the value is written as this string in at most `most` writes with any format, and stops at the first write that fails.
+pub(crate) fn compare_formats<T: Display>(value: &T, text: &str, most: u32) -> Compared {
+    agree("a writer that fails", refused_requests(value) == 1)?;
+    compare("{}", format_args!("{value}"), text, most)?;
+    compare("{:>80}", format_args!("{value:>80}"), text, most)?;
+    compare("{:*<200}", format_args!("{value:*<200}"), text, most)?;
+    compare("{:.3}", format_args!("{value:.3}"), text, most)?;
+    compare("{:+}", format_args!("{value:+}"), text, most)?;
+    compare("{:#}", format_args!("{value:#}"), text, most)?;
+    compare("{:030}", format_args!("{value:030}"), text, most)?;
+    compare(
+        "{:µ^+#0400.3}",
+        format_args!("{value:µ^+#0400.3}"),
+        text,
+        most,
+    )
+}
+
+/// Compares whether the value is written as this string, in at most `most` writes, with the format of this name.
+fn compare<D: Display + Drop>(name: &'static str, value: D, text: &str, most: u32) -> Compared {
+    agree(name, is_written(value, text, most))
 }
 
 /// Returns the number of writes that `Display` makes to a writer that always fails, or `u32::MAX` if it returns `Ok`.

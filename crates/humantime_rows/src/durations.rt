@@ -1,8 +1,8 @@
 //! The library's results of calls about durations.
 
-use crate::display::is_always_written;
+use crate::display::compare_formats;
 use crate::values::parts;
-use crate::writing::{all_agree, write_result};
+use crate::writing::{Compared, agree, write_result};
 use humantime::{
     Duration, DurationError, Span, StdDuration, canonical, format_duration, parse_duration, spans,
 };
@@ -13,12 +13,12 @@ pub(crate) fn parse<W: Write>(f: &mut Formatter<W>, text: &str) -> fmt::Result {
     let mut buf = [0; 64];
     match parse_duration(text) {
         Ok(value) => {
-            let is_agreed = is_printed(value, canonical(text, &mut buf).unwrap_or_default());
-            write_result(f, Ok::<_, ()>(parts(value)), is_agreed)
+            let compared = compare_prints(value, canonical(text, &mut buf).unwrap_or_default());
+            write_result(f, Ok::<_, ()>(parts(value)), compared)
         }
         Err(error) => {
             let is_agreed = canonical(text, &mut buf).err() == Some(error);
-            write_result(f, Err::<(), _>(error), is_agreed)
+            write_result(f, Err::<(), _>(error), agree("canonical", is_agreed))
         }
     }
 }
@@ -28,28 +28,26 @@ pub(crate) fn misplace<W: Write>(f: &mut Formatter<W>, at: usize, wanted: &str) 
     let invalid = DurationError::InvalidCharacter(at);
     let expected = DurationError::NumberExpected(at);
     let (first, second) = wanted.split_once(", ").unwrap_or_default();
-    let is_agreed = is_always_written(&invalid, first, 2)
-        && is_always_written(&expected, second, 2);
-    write_result(f, format_args!("{invalid}, {expected}"), is_agreed)
+    let compared = compare_formats(&invalid, first, 2).and(compare_formats(&expected, second, 2));
+    write_result(f, format_args!("{invalid}, {expected}"), compared)
 }
 
 /// Writes the printed string of a duration.
 pub(crate) fn print<W: Write>(f: &mut Formatter<W>, value: StdDuration) -> fmt::Result {
     let (printed, mut buf) = (format_duration(value), [0; 64]);
     let text = printed.text(&mut buf);
-    write_result(f, text, is_printed(value, text))
+    write_result(f, text, compare_prints(value, text))
 }
 
-/// Returns whether every call that prints the duration prints this string, and the string is parsed to the duration.
-fn is_printed(value: StdDuration, text: &str) -> bool {
+/// Compares whether every call that prints the duration prints this string, and the string is parsed to the duration.
+fn compare_prints(value: StdDuration, text: &str) -> Compared {
     let (printed, mut buf) = (format_duration(value), [b'x'; 64]);
-    all_agree(&[
-        printed.text(&mut buf) == text,
-        buf.starts_with(text.as_bytes()),
-        parse_duration(text) == Ok(value),
-        is_always_written(&printed, text, 1),
-        is_always_written(&Duration::from(value), text, 1),
-    ])
+    agree("text", printed.text(&mut buf) == text)?;
+    agree("its buffer", buf.starts_with(text.as_bytes()))?;
+    agree("parse_duration", parse_duration(text) == Ok(value))?;
+    compare_formats(&printed, text, 1)?;
+    let wrapped = compare_formats(&Duration::from(value), text, 1);
+    agree("Duration", wrapped.is_ok())
 }
 
 /// Writes the items of the string, and what three more calls return after the last one.

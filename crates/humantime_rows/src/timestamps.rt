@@ -1,7 +1,7 @@
 //! The library's results of calls that print timestamps.
 
-use crate::display::{is_always_written, refused_requests};
-use crate::writing::write_result;
+use crate::display::{compare_formats, refused_requests};
+use crate::writing::{agree, write_result};
 use humantime::{
     Rfc3339Timestamp, SystemTime, Timestamp, format_rfc3339, format_rfc3339_micros,
     format_rfc3339_millis, format_rfc3339_nanos, format_rfc3339_seconds,
@@ -17,13 +17,13 @@ pub(crate) fn print<W: Write>(
     let (printable, wrapper) = (printer(call, moment)?, Timestamp::from(moment));
     Some(match printable.text(&mut [0; 30]) {
         Some(text) => {
-            let is_wrapper = call != "shortest" || is_always_written(&wrapper, text, 1);
-            let is_agreed = is_always_written(&printable, text, 1) && is_wrapper;
-            write_result(f, Some(text), is_agreed)
+            let is_wrapper = call != "shortest" || compare_formats(&wrapper, text, 1).is_ok();
+            let compared = compare_formats(&printable, text, 1).and(agree("Timestamp", is_wrapper));
+            write_result(f, Some(text), compared)
         }
         None => {
             let is_agreed = refused_requests(&printable) == 0 && refused_requests(&wrapper) == 0;
-            write_result(f, None::<&str>, is_agreed)
+            write_result(f, None::<&str>, agree("Display", is_agreed))
         }
     })
 }

@@ -1,6 +1,6 @@
 //! The parts of durations and times, and their order.
 
-use crate::writing::write_result;
+use crate::writing::{agree, write_result};
 use humantime::{StdDuration, SystemTime};
 use std::fmt::{self, Formatter, Write};
 use std::hash::{FoldHasher, Hash, Hasher};
@@ -24,7 +24,7 @@ pub(crate) fn compare<W: Write, V: Ord + Hash + Copy, T: From<V> + Hash + Drop>(
     let hash = hash_of(&first);
     let is_wrapped = hash_of(&T::from(first)) == hash;
     let is_agreed = is_wrapped && (hash == hash_of(&second)) == (first == second);
-    write_result(f, first.cmp(&second), is_agreed)
+    write_result(f, first.cmp(&second), agree("hashes", is_agreed))
 }
 
 /// Returns the hash of a value.

@@ -1,34 +1,35 @@
 //! Writes results.
 
-use crate::display::is_always_written;
+use crate::display::compare_formats;
 use std::fmt::{self, Debug, Display, Formatter, Write};
 
-/// Returns whether all of these comparisons agree.
-pub(crate) fn all_agree(comparisons: &[bool]) -> bool {
-    !comparisons.contains(&false)
+/// The name of a comparison that does not hold, as an error.
+pub(crate) type Compared = Result<(), &'static str>;
+
+/// Returns the name of a comparison as an error, unless it holds.
+pub(crate) fn agree(name: &'static str, holds: bool) -> Compared {
+    if holds { Ok(()) } else { Err(name) }
 }
 
-/// Writes a value in `{:?}` form, followed by a note if another call or a format does not agree with it.
+/// Writes a value in `{:?}` form, followed by the name of a comparison with another call or format that does not hold, if there is one.
 pub(crate) fn write_result<W: Write, T: Debug + Drop>(
     f: &mut Formatter<W>,
     value: T,
-    is_agreed: bool,
+    compared: Result<(), &str>,
 ) -> fmt::Result {
-    let note = if is_agreed {
-        ""
-    } else {
-        ", but not by each call and format"
-    };
-    write!(f, "{value:?}{note}")
+    match compared {
+        Ok(()) => write!(f, "{value:?}"),
+        Err(name) => write!(f, "{value:?}, but not by {name}"),
+    }
 }
 
-/// Writes the message of an error, followed by a note if some format changes it or needs more than `most` writes.
+/// Writes the message of an error, followed by a format that changes it or needs more than `most` writes, if there is one.
 pub(crate) fn write_message<W: Write, E: Display + Copy>(
     f: &mut Formatter<W>,
     error: E,
     wanted: &str,
     most: u32,
 ) -> fmt::Result {
-    let is_agreed = is_always_written(&error, wanted, most);
-    write_result(f, format_args!("{error}"), is_agreed)
+    let compared = compare_formats(&error, wanted, most);
+    write_result(f, format_args!("{error}"), compared)
 }
