@@ -86,11 +86,12 @@ def once(crates, attempt, *given):
 
 
 def builds(crate):
-    """Returns the builds of a crate's program, by both back ends. If there is none, the program is built first."""
-    paths = [ROOT / "crates" / crate / "out" / name for name in (crate, f"{crate}.by-rattle")]
-    if not any(path.exists() for path in paths):
-        rt(ROOT, crate, "run")
-    return [str(path) for path in paths if path.exists()] or sys.exit(f"{crate} was not built")
+    """Returns the builds of a crate's program, by both back ends, newer than its sources. If there is none, LLVM makes one first."""
+    paths = [CRATES / crate / "out" / name for name in (crate, f"{crate}.by-rattle")]
+    changed = max(path.stat().st_mtime for name in BELOW[crate] for path in (CRATES / name / "src").rglob("*.rt"))
+    made = [str(path) for path in paths if path.exists() and path.stat().st_mtime > changed]
+    said = "" if made else rt(ROOT, crate, "run").stdout
+    return made or [str(paths[0])] * (f"rt: running out/{crate};" in said) or sys.exit(f"{crate} was not built: {said[-3000:]}")
 
 
 def finish(script, passed, failed):
