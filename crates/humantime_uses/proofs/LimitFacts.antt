@@ -4,7 +4,6 @@ use Rattle.std.proofs.Common.{◌≡◌, ◌∙◌, ◌↔◌, ℕ, ◌+◌, ◌
 use Rattle.std.specs.Prelude.{codes, decimal, Bool, true, false, ◌&&◌, ◌||◌, ◌==◌, nat_le, nat_lt, if◌then◌else◌, option_map, sum_by, unwrap_or, IsSome}
 use Rattle.std.specs.List.{AllByRecursion, zip}
 use Rattle.std.specs.Str.{byte}
-use Rattle.std.specs.Str.Parse.{digits_value}
 use Rattle.std.proofs.lemmas.Bool.Decides.{nat_tests}
 use Rattle.humantime.specs.Characters.{decimal_value, without_trailing_zeros}
 use Rattle.humantime.specs.Durations.{in_nanos, in_seconds, in_seconds_and_nanos, scale_of_word, whole_nanos, SpelledSpan, Reads, Accepted, AllHaveRoom, BareZero, SumOf, Formed, additions, additions_of, fits, fraction_additions, fraction_fits, has_room, has_too_many_digits, of_kind, quantity_nanos, size, times, too_long, total, value}
@@ -41,9 +40,6 @@ same_kind : (m n : ℕ) → (of_kind (in_nanos m).whole n ≡ (in_nanos n).whole
 same_kind m n = (refl, refl)
 
 -- ---- digits
-
-digits : (ds : List ℕ) → decimal_value ds ≡ digits_value 10 ds
-digits ds = refl
 
 trailing_zeros : (ds : List ℕ) → (without_trailing_zeros [] ≡ []) × (without_trailing_zeros (ds ++ codes "0") ≡ without_trailing_zeros ds)
 unfolding without_trailing_zeros

@@ -1,17 +1,13 @@
--- What texts of durations consist of, at any length: whitespace, digits, letters, points, the words of the units, spans; and messages.
-use Rattle.std.proofs.Common.{◌≡◌, ◌≢◌, ℕ, List, [], ◌∷◌, ◌++◌, None, Some, Ok, Err, map, filter, refl, arith, append-nil}
-use Rattle.std.specs.Prelude.{codes, bytes_eq, decimal, ◌&&◌, ◌||◌, ◌==◌, nat_le, not, true, IsPermutation}
+-- What texts of durations consist of, at any length: whitespace, digits, letters, points, the words of the units; and messages.
+use Rattle.std.proofs.Common.{◌≡◌, ℕ, List, [], ◌∷◌, ◌++◌, map, filter, refl}
+use Rattle.std.specs.Prelude.{codes, bytes_eq, decimal, ◌&&◌, ◌||◌, ◌==◌, nat_le, not, IsPermutation}
 use Rattle.std.specs.Char.{char_set_contains}
 use Rattle.std.specs.Map.{lookup}
-use Rattle.std.specs.Str.{byte}
-use Rattle.std.proofs.lemmas.Grind.{common_steps}
 use Rattle.humantime.specs.declared.TimestampError.TheVariants.{OutOfRange, InvalidDigit, InvalidFormat}
-use Rattle.humantime.specs.Prelude.{AreReordered, Reads, SpanView, SpelledSpan, Fault, InvalidCharacter, NumberExpected, UnknownUnit, NumberOverflow, Empty, fault_message, timestamp_message, without_whitespace}
+use Rattle.humantime.specs.Prelude.{AreReordered, Reads, SpelledSpan, InvalidCharacter, NumberExpected, UnknownUnit, NumberOverflow, Empty, fault_message, timestamp_message, without_whitespace}
 use Rattle.humantime.specs.Laws.{is_gap}
-use Rattle.humantime.specs.Items.{IsDigitSlice, items_of}
-use Rattle.humantime.specs.Characters.{begins, ends, whitespace_chars, is_whitespace, is_digit, is_letter, is_point}
-use Rattle.humantime.specs.Durations.{HasOnly, HoldsDigits, IsLetters, in_nanos, in_seconds, in_seconds_and_nanos, scale_of_word, whole_nanos, words}
-use Rattle.humantime.proofs.Characters.{digit_is_numeric}
+use Rattle.humantime.specs.Characters.{whitespace_chars, is_whitespace, is_digit, is_letter, is_point}
+use Rattle.humantime.specs.Durations.{in_nanos, in_seconds, in_seconds_and_nanos, scale_of_word, whole_nanos, words}
 
 -- ---- characters
 
@@ -58,51 +54,6 @@ all_words = refl
 any_word : (word : List ℕ) → scale_of_word word ≡ lookup (bytes_eq word) words
 unfolding scale_of_word
 any_word word = refl
-
--- ---- spans
-
--- Digits alone are the digits that they hold.
-digits_held : (ds : List ℕ) → HasOnly is_digit ds → HoldsDigits ds ds
-digits_held [] only = (tt, refl)
-digits_held (d ∷ ds) only = let more = digits_held ds only.1 in grind (arith, common_steps, digit_is_numeric)
-
--- A span is read with all its digits and letters, after and before any whitespace.
-any_span : (before number ds word after : List ℕ) → HasOnly is_whitespace before → HasOnly is_digit number → number ≢ [] → HasOnly is_digit ds → ds ≢ []
-    → IsLetters word → HasOnly is_whitespace after
-    → Reads (before ++ (number ++ (codes "." ++ (ds ++ (word ++ after))))) (record { number = number; fraction = Some ds; word = word } ∷ [])
-any_span before number ds word after white digits some fraction any letters more = (
-  record {
-    whitespace = before;
-    body = _;
-    whole = refl;
-    only_whitespace = white;
-    each = (
-      [],
-      record {
-        number_text = number;
-        fraction_text = byte "." ∷ ds;
-        whitespace = after;
-        whole = rw (append-nil after) refl;
-        starts = grind arith;
-        number = digits_held number digits;
-        fraction = (ds, refl, digits_held ds fraction, any);
-        word = letters;
-        only_whitespace = more;
-      },
-      refl,
-    );
-  },
-  λ none. cc,
-)
-
--- The slice of a number or a fraction begins and ends with a digit.
-digit_ends : (text slice : List ℕ) → IsDigitSlice text slice → (begins is_digit slice ≡ true) × (ends is_digit slice ≡ true)
-digit_ends text slice is = (is.first_digit, is.last_digit)
-
--- The items are those of the spans and then the error, if there is one. So none follows an error.
-any_items : (slices : List SpanView) (e : Fault)
-    → (items_of slices None ≡ map Ok slices ++ []) × (items_of slices (Some e) ≡ map Ok slices ++ Err e ∷ [])
-any_items slices e = (refl, refl)
 
 -- Spans may be in any other order.
 any_order : (text other : List ℕ) (spans others : List SpelledSpan) → Reads text spans → Reads other others → IsPermutation spans others
