@@ -46,6 +46,7 @@ pub fn decided(text: &str) -> Result<StdDuration, DurationError<'_>>
     ensures fault { (e : Fault) → (result_view result ≡ Err e) ↔ HasFault (chars text.now) e }
     ensures before { (v : ℕ) → AcceptedWithZeros (chars text.now) v → Accepted (chars text.now) v }
     ensures still { WasAccepted (chars text.now) → IsOk result }
+    ensures kept { (v : ℕ) → AcceptedWithZeros (chars text.now) v → duration_answer (chars text.now) ≡ Ok v }
     ensures added { (ss : List SpelledSpan) → older_additions ss ≡ additions ss }
 {
     spans_decide(text);
@@ -76,7 +77,8 @@ pub fn read_back(text: &str, duration: StdDuration) -> Result<StdDuration, Durat
 
 /// Returns `true` if two durations have the same string, which they have only if they are equal.
 pub fn looks_same(a: StdDuration, b: StdDuration) -> bool
-    ensures { IsTrue result ↔ (a ≡ b) }
+    ensures same { IsTrue result ↔ (a ≡ b) }
+    ensures canon { (text : List ℕ) (other : List ℕ) → IsCanonicalText a text → IsCanonicalText b other → (text ≡ other) ↔ (a ≡ b) }
 {
     printed_durations_differ(a, b);
     format_duration(a).text(&mut [0; 64]) == format_duration(b).text(&mut [0; 64])

@@ -15,6 +15,14 @@ pub fn limit_of_parts(secs: u64, nanos: u32) -> Option<Duration>
     Some(Duration::from(StdDuration::checked_new(secs, nanos)?))
 }
 
+/// Returns the duration of any seconds and nanoseconds, which are carried, or `None` if it is too long.
+pub fn carried(secs: u64, nanos: u32) -> Option<StdDuration>
+    ensures { SomeIff result (secs + nanos / nanos_per_second < 2 ^ 64) (secs * nanos_per_second + nanos) }
+{
+    StdDuration::checked_new(secs, nanos)?;
+    Some(StdDuration::new(secs, nanos))
+}
+
 /// Returns a timestamp of seconds and nanoseconds after 1970-01-01, or `None` if the nanoseconds are a second or more.
 pub fn timestamp_of_parts(secs: i64, nanos: u32) -> Option<Timestamp>
     ensures { SomeIff result (nanos < nanos_per_second) (moment secs nanos) }
