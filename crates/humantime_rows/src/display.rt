@@ -45,6 +45,10 @@ pub(crate) fn compare_formats<T: Display>(value: &T, text: &str, most: u32) -> C
     compare("{:+}", format_args!("{value:+}"), text, most)?;
     compare("{:#}", format_args!("{value:#}"), text, most)?;
     compare("{:030}", format_args!("{value:030}"), text, most)?;
+    compare("{:5}", format_args!("{value:5}"), text, most)?;
+    compare("{:.0}", format_args!("{value:.0}"), text, most)?;
+    compare("{:^90}", format_args!("{value:^90}"), text, most)?;
+    compare("{:é^90.12}", format_args!("{value:é^90.12}"), text, most)?;
     compare(
         "{:µ^+#0400.3}",
         format_args!("{value:µ^+#0400.3}"),

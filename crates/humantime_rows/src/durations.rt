@@ -8,9 +8,12 @@ use humantime::{
 };
 use std::fmt::{self, Formatter, Write};
 
-/// Writes the seconds and nanoseconds of the string, or its error, which is also that of `canonical`.
+/// What a buffer holds before a call.
+const FILLED: &[u8; 64] = b"ABCDEFGHIJKLMNOPQRSTUVWXYZabcdefghijklmnopqrstuvwxyz0123456789+-";
+
+/// Writes the seconds and nanoseconds of the string, or its error, which is also that of `canonical`. That leaves the buffer unchanged.
 pub(crate) fn parse<W: Write>(f: &mut Formatter<W>, text: &str) -> fmt::Result {
-    let mut buf = [0; 64];
+    let mut buf = *FILLED;
     match parse_duration(text) {
         Ok(value) => {
             let compared = compare_prints(value, canonical(text, &mut buf).unwrap_or_default());
@@ -18,7 +21,8 @@ pub(crate) fn parse<W: Write>(f: &mut Formatter<W>, text: &str) -> fmt::Result {
         }
         Err(error) => {
             let is_agreed = canonical(text, &mut buf).err() == Some(error);
-            write_result(f, Err::<(), _>(error), agree("canonical", is_agreed))
+            let compared = agree("canonical", is_agreed).and(agree("its buffer", buf == *FILLED));
+            write_result(f, Err::<(), _>(error), compared)
         }
     }
 }

@@ -8,22 +8,28 @@ use humantime::{
 };
 use std::fmt::{self, Formatter, Write};
 
-/// Writes the string of a time, as the call of this name prints it, or returns `None` if no call has this name.
+/// What a buffer holds before a call.
+const FILLED: &[u8; 30] = b"ABCDEFGHIJKLMNOPQRSTUVWXYZabcd";
+
+/// Writes the string of a time, as the call of this name prints it, or returns `None` if no call has this name. A time without a string
+/// leaves the buffer unchanged.
 pub(crate) fn print<W: Write>(
     f: &mut Formatter<W>,
     call: &str,
     moment: SystemTime,
 ) -> Option<fmt::Result> {
     let (printable, wrapper) = (printer(call, moment)?, Timestamp::from(moment));
-    Some(match printable.text(&mut [0; 30]) {
+    let mut buf = *FILLED;
+    Some(match printable.text(&mut buf) {
         Some(text) => {
             let is_wrapper = call != "shortest" || compare_formats(&wrapper, text, 1).is_ok();
             let compared = compare_formats(&printable, text, 1).and(agree("Timestamp", is_wrapper));
             write_result(f, Some(text), compared)
         }
         None => {
-            let is_agreed = refused_requests(&printable) == 0 && refused_requests(&wrapper) == 0;
-            write_result(f, None::<&str>, agree("Display", is_agreed))
+            let is_refused = refused_requests(&printable) == 0 && refused_requests(&wrapper) == 0;
+            let compared = agree("Display", is_refused).and(agree("its buffer", buf == *FILLED));
+            write_result(f, None::<&str>, compared)
         }
     })
 }
