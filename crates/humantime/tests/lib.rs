@@ -71,7 +71,7 @@ fn the_program_answers_where_memory_is_refused(rt: HostRuntime) {
 fn debug_succeeds_where_memory_is_refused(rt: HostRuntime) {
     refuse_memory(&rt, 0);
     let most = StdDuration::MAX;
-    let durations = (most, Duration::new(most), format_duration(most), spans("1.5h").next());
+    let durations = (most, Duration::new(most), format_duration(most), spans("1.5h").next(), spans("1h").next());
     let later = UNIX_EPOCH.checked_add(StdDuration::from_secs(5)).unwrap_or(UNIX_EPOCH);
     let moments = (later, Timestamp::from(later), format_rfc3339(later), UNIX_EPOCH.duration_since(later));
     let date = Date { year: 2000, month: 2, day: 29 };
