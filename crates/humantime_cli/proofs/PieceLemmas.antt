@@ -2,6 +2,8 @@
 use Rattle.std.proofs.Common.{arith, take_all, take-append-drop, append_assoc, append-nil, ◌≡◌, ℕ, zero, suc, List, [], ◌∷◌, ◌++◌, ◌≤◌, ◌<◌, ◌+◌, ◌-◌, refl, sym, ap, ◌∙◌, take, drop, min, subst, length, length-append, length-take, length-drop}
 use Rattle.std.proofs.KnownBytes.{Appends-trans}
 use Rattle.std.proofs.Math.Seq.{take-add}
+use Rattle.std.proofs.lemmas.Slice.{take-put_mid}
+use Rattle.std.proofs.lemmas.Grind.{common_steps}
 use Rattle.std.proofs.lemmas.List.{take_min, drop_min, take-take}
 use Rattle.std.specs.Fmt.{WritesText}
 use Rattle.std.specs.Io.KnownBytes.{Appends}
@@ -14,9 +16,10 @@ use Rattle.std.proofs.lemmas.Bool.Decides.{nat_tests}
 
 -- Texts that were added one after the other are one text.
 adds_all : (old : Piece) (texts : List (List ℕ)) (new : Piece) → FoldsTo AddsText old texts new → AddsText old (concat texts) new
-adds_all old [] new same start text is = rw (append-nil text) (subst (IsPiece start text) same is)
-adds_all old (x ∷ xs) new (mid, first, rest) start text is =
-    rw (sym (append_assoc text x (concat xs))) (adds_all mid xs new rest start (text ++ x) (first start text is))
+adds_all old [] new same = record { adds = λ start text is. rw (append-nil text) (subst (IsPiece start text) same is) }
+adds_all old (x ∷ xs) new (mid, first, rest) = record {
+  adds = λ start text is. rw (sym (append_assoc text x (concat xs))) ((adds_all mid xs new rest).adds start (text ++ x) (first.adds start text is));
+}
 
 -- The first bytes of two texts in a row, and what follows them.
 take_both : (n : ℕ) (xs ys : List ℕ) → take n (xs ++ ys) ≡ take n xs ++ take (n - length xs) ys
@@ -30,28 +33,33 @@ drop_both (suc n) [] ys = let whole : suc n - 0 ≡ suc n = omega arith in rw wh
 drop_both (suc n) (x ∷ xs) ys = grind (arith, (drop_both n xs ys))
 
 -- As much of a text was added to a piece as fits.
-pub longer_piece : (start skipped count : ℕ) (text s : List ℕ) (old new : Piece) → IsPiece start text old → skipped ≡ min old.skip (length s)
-    → count ≡ min (length s - skipped) (192 - old.len) → new.skip ≡ old.skip - skipped → new.len ≡ old.len + count
-    → new.is_cut ≡ (old.is_cut || nat_lt count (length s - skipped))
-    → take new.len new.bytes ≡ take old.len old.bytes ++ take count (drop skipped s) → IsPiece start (text ++ s) new
-longer_piece start skipped count text s old new is most fit skip len cut bytes =
-    let longer = length-append text s in
-    let rest : drop skipped s ≡ drop (start - length text) s = rw (most, is.skip, drop_min) refl in
-    let size : count ≡ min (192 - length (drop start text)) (length (drop skipped s)) = omega (arith, is.len, length-drop start text, length-drop skipped s) in
-    let few : take count (drop skipped s) ≡ take (192 - length (drop start text)) (drop (start - length text) s) = rw (size, take_min, rest) refl in
-    record {
-      skip = grind (arith, is, longer);
-      len = grind (arith, is, longer);
-      cut = grind (arith, nat_tests, is, longer);
-      bytes = bytes ∙ rw (is.bytes, few, drop_both start text s, take_both 192 (drop start text) (drop (start - length text) s)) refl;
-    }
+pub longer_piece : (old new : Piece) (s rest : List ℕ) (count : ℕ) → new.skip ≡ old.skip - min old.skip (length s) → rest ≡ drop (min old.skip (length s)) s
+    → count ≡ min (length rest) (192 - old.len) → new.len ≡ old.len + count → new.is_cut ≡ (old.is_cut || nat_lt count (length rest))
+    → take new.len new.bytes ≡ take old.len old.bytes ++ take count rest → AddsText old s new
+longer_piece old new s rest count skip left most len cut bytes = record {
+  adds = λ start text is.
+      let longer = length-append text s in
+      let after : rest ≡ drop (start - length text) s = rw (left, is.skip, drop_min) refl in
+      let size = ap length after ∙ length-drop (start - length text) s in
+      let room : count ≡ min (192 - length (drop start text)) (length rest) = omega (arith, most, is.len, length-drop start text) in
+      let few = ap (λ n. take n rest) room ∙ take_min _ rest ∙ ap (take (192 - length (drop start text))) after in
+      record {
+        skip = grind (arith, is, longer, skip);
+        len = grind (arith, is, longer, size, most, len);
+        cut = grind (arith, nat_tests, is, longer, size, most, cut);
+        bytes = bytes ∙ rw (few, is.bytes, drop_both start text s, take_both 192 (drop start text) (drop (start - length text) s)) refl;
+      };
+}
+
+-- What adding a text to a piece needs.
+pub ruleset pieces = (longer_piece, take-put_mid, common_steps, nat_tests)
 
 -- A value and a line feed were displayed.
 pub line_of : (output : Option (List ℕ)) (start : ℕ) (old mid new : Piece) → IsSome output → WritesText AddsText old output mid → AddsText mid (10 ∷ []) new
     → IsPiece start [] old → IsPiece start (line (unwrap_or output [])) new
 line_of None start old mid new some wrote end is = cc
 line_of (Some text) start old mid new some wrote end is =
-    end start text (subst (λ (t : List ℕ). AddsText old t mid) wrote.whole (adds_all old wrote.parts mid wrote.calls) start [] is)
+    end.adds start text ((subst (λ (t : List ℕ). AddsText old t mid) wrote.whole (adds_all old wrote.parts mid wrote.calls)).adds start [] is)
 
 -- After the first bytes of a text, some of a piece were written: not all of it, or the piece is cut. So the text has more bytes.
 pub more_written : (old mid new : Option (List ℕ)) (text bytes : List ℕ) (done count : ℕ) (piece : Piece) → IsPiece done text piece → bytes ≡ take piece.len piece.bytes

@@ -11,5 +11,5 @@ pub record IsPiece (start : ℕ) (text : List ℕ) (piece : Piece) : Type 0 wher
   pub bytes : take piece.len piece.bytes ≡ take 192 (drop start text)
 
 -- The bytes were appended to the text.
-abbrev pub AddsText : Piece → List ℕ → Piece → Type 0
-AddsText old bytes new = (start : ℕ) (text : List ℕ) → IsPiece start text old → IsPiece start (text ++ bytes) new
+pub record AddsText (old : Piece) (bytes : List ℕ) (new : Piece) : Type 0 where
+  pub adds : (start : ℕ) (text : List ℕ) → IsPiece start text old → IsPiece start (text ++ bytes) new

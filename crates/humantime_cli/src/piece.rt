@@ -51,6 +51,7 @@ impl fmt::Write for Piece {
     ghost write_str_gives = { AddsText };
 
     #[inline(always)]
+    #[tactic(auto, using(crate::proofs::PieceLemmas::pieces))]
     fn write_str(&mut self, s: &str) -> fmt::Result {
         let skipped = self.skip.min(s.len());
         self.skip -= skipped;
