@@ -1,5 +1,5 @@
 -- The counts of a duration by unit, and the texts that they print as.
-use Rattle.std.proofs.Common.{ℕ, ◌<◌, ◌≤◌, length, arith, ◌≡◌, ◌/◌, ◌%◌, List, [], ◌∷◌, refl, ap, ◌∙◌, rules, ◌++◌, ◌^◌, true, nat_cmp, IsTrue, ◌*◌, Bool, cond, ◌+◌, append_assoc, length-append, is_le}
+use Rattle.std.proofs.Common.{ℕ, ◌<◌, ◌≤◌, length, arith, ◌≡◌, ◌/◌, ◌%◌, List, [], ◌∷◌, refl, ap, ◌∙◌, rules, ◌++◌, ◌^◌, true, nat_cmp, IsTrue, ◌*◌, Bool, cond, ◌+◌, append_assoc, length-append, is_le, take, sym, subst}
 use Rattle.std.specs.Prelude.{decimal, ◌==◌, if◌then◌else◌, codes, ◌&&◌, Some, None, nat_lt, nat_le, map, slice_index, ⊤}
 use Rattle.std.proofs.lemmas.Fmt.{length-decimal-le, decimal_is_IsNumeral}
 use Rattle.std.proofs.lemmas.Grind.{common_steps}
@@ -15,7 +15,9 @@ use Rattle.std.proofs.lemmas.Map.Lookups.{exact_bytes}
 use Rattle.std.specs.Cmp.Lexicographic.{slice_cmp}
 use Rattle.std.specs.Cmp.{nat_cmp_is}
 use Rattle.std.specs.Str.{IsUtf8, is_utf8, chars}
-use Rattle.std.proofs.lemmas.Str.{IsUtf8-from_is_utf8}
+use Rattle.std.proofs.lemmas.Slice.{take-put_mid}
+use Rattle.std.proofs.lemmas.Str.{IsUtf8-append, IsUtf8-from_is_utf8}
+use borrow.Rule.Slice.PartMut.{put_mid}
 use lib.Utf8.{encode}
 use Rattle.humantime.specs.Values.{nanos_per_micro, nanos_per_milli, nanos_per_second, seconds_per_minute, seconds_per_hour, seconds_per_day, seconds_per_month, seconds_per_year}
 use Rattle.humantime.specs.DurationResults.{divided, duration_text}
@@ -31,6 +33,11 @@ pub decimal_short : (n : ℕ) → (n < 100 → length (decimal n) ≤ 2) × (n <
 decimal_short n = grind (arith, (length-decimal-le 2 n), (length-decimal-le 3 n), (length-decimal-le 12 n))
 
 -- ==== The text that is written count by count is the text of the counts.
+
+-- A text that is written after another one in a buffer.
+pub written_after : (a k n : ℕ) (bytes text : List ℕ) → IsUtf8 (take a bytes) → IsUtf8 text → a ≤ length bytes → n ≡ a + length text
+    → IsUtf8 (take n (put_mid a k bytes text))
+written_after a k n bytes text u v fits size = subst IsUtf8 (sym (take-put_mid a k bytes text n size fits)) (IsUtf8-append _ _ u v)
 
 -- Counts that are written after a text, one by one.
 abbrev pub with_counts : List ℕ → List ℕ → List Suffix → List ℕ

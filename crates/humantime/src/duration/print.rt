@@ -44,6 +44,7 @@ impl<'b> Writer<'b> {
 
     /// Appends a string, which must fit in the buffer.
     #[inline(always)]
+    #[tactic(auto, using(crate::proofs::Counts::written_after))]
     fn push(&mut self, text: &str)
         requires fits { self.old.end + length text.now ≤ length self.old.bytes.now }
         ensures { Appends self.old self.new text.now }
