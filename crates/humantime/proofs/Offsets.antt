@@ -1,7 +1,8 @@
 -- Offsets in a text, the characters at them, and the ends of a text.
 use Rattle.std.proofs.lemmas.Grind.{common_steps}
 use Rattle.std.proofs.Common.{◌≡◌, ◌<◌, ◌≤◌, ◌+◌, ℕ, List, [], ◌∷◌, ◌++◌, length, get_or, drop, refl, ap, sym, ◌∙◌, arith, length-drop, IsUtf8, IsCharBoundary, chars, encode_utf8, encode_utf8_all, Bool, true, false, ◌≢◌, ◌-◌, take, length-append, length-take, ◌==◌, ◌&&◌, ◌||◌}
-use Rattle.std.specs.Char.{is_ascii_digit, len_utf8}
+use Rattle.std.specs.Char.{is_ascii_alphabetic, is_ascii_digit, len_utf8}
+use Rattle.std.specs.Prelude.{nat_lt}
 use Rattle.std.proofs.Math.Utf8.{encode}
 use Rattle.std.proofs.lemmas.Bool.{cases_lt, ne_eqb}
 use Rattle.std.proofs.lemmas.Bool.Decides.{nat_tests}
@@ -81,6 +82,30 @@ mu_over text at u place some pair =
     let d = char_at text at u (omega arith, place) in
     let behind = drop (at + len_utf8 d.0) text in
     grind (arith, common_steps, nat_tests, (encode_same d.0 181 behind (drop (at + 2) text)), (encode_same d.0 956 behind (drop (at + 2) text)), d)
+
+-- Dropping the letters from an offset on drops those from the next one on.
+abbrev pub DropsLetter : List ℕ → ℕ → ℕ → Type 0
+DropsLetter text at next = (drop_while is_letter (chars (drop at text)) ≡ drop_while is_letter (chars (drop next text))) × IsCharBoundary text next
+
+-- Tests whether there is one of the two letters that are not ASCII at an offset.
+abbrev pub has_mu : List ℕ → ℕ → Bool
+has_mu text at = nat_lt (at + 1) (length text) && is_mu_pair (get_or text at 0) (get_or text (at + 1) 0)
+
+-- There is an ASCII letter at an offset, one of the two others, or none. Each conclusion begins with the test of a byte, by which `grind`
+-- finds the lemma: found by the letters that are dropped, it would be applied to its own result again and again.
+pub ascii_letter : (text : List ℕ) (at : ℕ) → IsUtf8 text → IsCharStartIn text at → is_ascii_alphabetic (get_or text at 0) ≡ true
+    → (is_ascii_alphabetic (get_or text at 0) ≡ true) × DropsLetter text at (at + 1)
+unfolding is_letter
+ascii_letter text at u here letter = grind (arith, common_steps, nat_tests, (ascii_at text at u here))
+
+pub mu_letter : (text : List ℕ) (at : ℕ) → IsUtf8 text → IsCharStartIn text at → is_ascii_alphabetic (get_or text at 0) ≡ false → has_mu text at ≡ true
+    → (is_ascii_alphabetic (get_or text at 0) ≡ false) × DropsLetter text at (at + 2)
+mu_letter text at u here other mu = grind (arith, common_steps, nat_tests, (mu_over text at u here.1))
+
+pub no_letter : (text : List ℕ) (at : ℕ) → IsUtf8 text → IsCharStartIn text at → is_ascii_alphabetic (get_or text at 0) ≡ false → has_mu text at ≡ false
+    → (is_ascii_alphabetic (get_or text at 0) ≡ false) × (drop_while is_letter (chars (drop at text)) ≡ chars (drop at text))
+unfolding is_letter encode
+no_letter text at u here other none = grind (arith, common_steps, nat_tests, (char_at text at u here))
 
 -- A mu is not whitespace.
 pub no_whitespace_at_mu : (text : List ℕ) (at : ℕ) → IsUtf8 text → IsCharBoundary text at → at + 1 < length text
@@ -162,6 +187,9 @@ pub ruleset rests = (slice_tail, whole_tail, no_bytes, some_chars, no_chars_at, 
 
 -- The first character of a text.
 pub ruleset first = (rests, char_at, digit_at, digit_stays, cases_lt, ne_eqb, common_steps, nat_tests)
+
+-- The letters from an offset on.
+pub ruleset letters = (ascii_letter, mu_letter, no_letter, slice_tail, no_chars_at, IsCharBoundary-start, nat_tests)
 
 -- Whitespace at an offset.
 pub ruleset whitespace_at = (ascii_at, ascii_whitespace, no_whitespace_at_mu, common_steps, nat_tests)

@@ -166,7 +166,7 @@ pub(crate) fn read_fraction(text: &str) -> Option<((Fraction, &str), &str)>
 
 /// Returns the letters (ASCII, `µ` or `μ`) at the start of the string, if any, and the rest.
 #[inline(always)]
-#[tactic(auto, using(crate::proofs::Offsets::rests))]
+#[tactic(auto, using(crate::proofs::Offsets::letters))]
 pub(crate) fn split_word(text: &str) -> (&str, &str)
     ensures word { chars result.0.now ≡ take_while is_letter (chars text.now) }
     ensures read { chars result.1.now ≡ drop_while is_letter (chars text.now) }
