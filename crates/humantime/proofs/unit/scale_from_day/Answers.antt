@@ -7,8 +7,8 @@ use Rattle.humantime.proofs.unit.scale_from_day.Goals as goal
 
 pub returns-in_default : goal.returns-in_default
 returns-in_default c =
-    rw (← c.as_bytes.ensures.value) (rw (from_day c.as_bytes.result.now c.as_bytes.ensures.utf8)
-    (at_each_length c.as_bytes.result.now _ (words_from seconds_per_day) None (length c.as_bytes.result.now)
+    rw (from_day c.args.word.now c.utf8.word)
+    (at_each_length c.args.word.now _ (words_from seconds_per_day) None (length c.args.word.now)
     (λ n. grind (arith, nat_tests)) (λ n. grind (arith, nat_tests)) (λ n. grind (arith, nat_tests)) (λ n. grind (arith, nat_tests))
     (λ n. grind (arith, nat_tests)) (λ n. grind (arith, nat_tests)) (λ n. grind (arith, nat_tests)) (λ n. grind (arith, nat_tests))
-    (λ n. grind (arith, nat_tests)) (λ n. grind (arith, nat_tests)) (λ n. grind (arith, nat_tests)) (λ n. grind (arith, nat_tests))))
+    (λ n. grind (arith, nat_tests)) (λ n. grind (arith, nat_tests)) (λ n. grind (arith, nat_tests)) (λ n. grind (arith, nat_tests)))

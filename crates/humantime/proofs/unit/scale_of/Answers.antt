@@ -7,8 +7,8 @@ use Rattle.humantime.proofs.unit.scale_of.Goals as goal
 
 pub returns-in_default : goal.returns-in_default
 returns-in_default c =
-    rw (← c.as_bytes.ensures.value) (rw (below_second c.as_bytes.result.now c.as_bytes.ensures.utf8)
-    (at_each_length c.as_bytes.result.now _ (words_below 1 words) (scale_from 1 (chars c.as_bytes.result.now)) (length c.as_bytes.result.now)
+    rw (below_second c.args.word.now c.utf8.word)
+    (at_each_length c.args.word.now _ (words_below 1 words) (scale_from 1 (chars c.args.word.now)) (length c.args.word.now)
     (λ n. grind (arith, nat_tests)) (λ n. grind (arith, nat_tests)) (λ n. grind (arith, nat_tests)) (λ n. grind (arith, nat_tests))
     (λ n. grind (arith, nat_tests)) (λ n. grind (arith, nat_tests)) (λ n. grind (arith, nat_tests)) (λ n. grind (arith, nat_tests))
-    (λ n. grind (arith, nat_tests)) (λ n. grind (arith, nat_tests)) (λ n. grind (arith, nat_tests)) (λ n. grind (arith, nat_tests))))
+    (λ n. grind (arith, nat_tests)) (λ n. grind (arith, nat_tests)) (λ n. grind (arith, nat_tests)) (λ n. grind (arith, nat_tests)))
