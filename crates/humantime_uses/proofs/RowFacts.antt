@@ -9,7 +9,7 @@ use Rattle.humantime.specs.declared.duration.error.DurationError.{DurationError}
 use Rattle.humantime.specs.declared.duration.error.DurationError.TheVariants as errors
 use Rattle.humantime.specs.Characters.{take_while, drop_while, begins, ends, is_whitespace, is_digit, is_letter, is_point}
 use Rattle.humantime.specs.Durations.{SpelledSpan, Spells, SpellsFraction, SpellsEach, SpellsAll, Reads, Formed, WithinLimits, scale_of_word, too_long}
-use Rattle.humantime.specs.DurationErrors.{number_of, after_number, fraction_of, after_fraction, word_of, after_word, span_of, may_follow_span, Fault, InvalidCharacter, NumberExpected, UnknownUnit, NumberOverflow, Empty, Split, BeginsNumber, IsStoppedWith, OnlyWhitespace, NoNumber, TooLong, NoLetterAfterNumber, PointWithoutDigits, NoLetterAfterPoint, WordNotEnded, NoWord, UnknownWord, BreaksLimit, HasFault, fault_of, result_view}
+use Rattle.humantime.specs.DurationErrors.{number_of, after_number, fraction_of, after_fraction, word_of, after_word, span_of, may_follow_span, Fault, InvalidCharacter, NumberExpected, UnknownUnit, NumberOverflow, Empty, Split, BeginsNumber, IsStoppedWith, OnlyWhitespace, NoNumber, TooLong, NoLetterAfterNumber, PointWithoutDigits, NoLetterAfterPoint, WordNotEnded, NoWord, UnknownWord, BreaksLimit, HasFault, fault_of, result_view, text_result_view}
 use Rattle.humantime.specs.Items.{EndsOrStops, Items, SpanView, IsDigitSlice, IsFractionView, IsSpanView, AreSpanViews, AreItems}
 
 abbrev Only : (ℕ → Bool) → List ℕ → Type 0
@@ -144,13 +144,14 @@ module _ (text front rest : List ℕ) (spans : List SpelledSpan) where
 
 -- ---- errors and the views of spans
 
--- An error as data has all that the error holds.
+-- An error as data has all that the error holds, and a result as data its value or its error.
 any_fault : (at start end value : ℕ) (unit : Bor (List ℕ)) (e : DurationError)
     → (fault_of (errors.InvalidCharacter at) ≡ InvalidCharacter at) × (fault_of (errors.NumberExpected at) ≡ NumberExpected at)
     × (fault_of (errors.UnknownUnit start end unit value) ≡ UnknownUnit start end unit.now value)
     × (fault_of errors.NumberOverflow ≡ NumberOverflow) × (fault_of errors.Empty ≡ Empty)
     × (result_view (Ok value) ≡ Ok value) × (result_view (Err e) ≡ Err (fault_of e))
-any_fault at start end value unit e = (refl, refl, refl, refl, refl, refl, refl)
+    × (text_result_view (Ok unit) ≡ Ok unit.now) × (text_result_view (Err e) ≡ Err (fault_of e))
+any_fault at start end value unit e = (refl, refl, refl, refl, refl, refl, refl, refl, refl)
 
 -- A slice goes from the first digit to the last.
 any_slice : (before slice after : List ℕ) → Only is_whitespace before → Only is_whitespace after → begins is_digit slice ≡ true

@@ -37,7 +37,7 @@ pub fn decided_once(text: &str) -> Result<StdDuration, DurationError<'_>>
 /// errors. A string accepted by the rule that trailing zeros count is accepted with the same value, and any spans add what they add
 /// by that rule.
 pub fn decided(text: &str) -> Result<StdDuration, DurationError<'_>>
-    ensures items { (ss : List SpelledSpan) × (stop : Option Fault) × Items (chars text.now) ss stop }
+    ensures one { ExactlyOne (λ (list : List SpelledSpan × Option Fault). Items (chars text.now) list.0 list.1) }
     ensures accepted { (ss : List SpelledSpan) (stop : Option Fault) → Items (chars text.now) ss stop → chars text.now ≢ bare_zero → (v : ℕ) → Accepted (chars text.now) v ↔ ((stop ≡ None) × WithinLimits ss × (value ss ≡ v)) }
     ensures stopped { (ss : List SpelledSpan) (e : Fault) → Items (chars text.now) ss (Some e) → chars text.now ≢ bare_zero → WithinLimits ss → HasFault (chars text.now) e }
     ensures first { (items : List (Result SpanView Fault)) (others : List (Result SpanView Fault)) (e : Fault) → AreItems (chars text.now) items → items ≡ Err e ∷ others → chars text.now ≢ bare_zero → duration_answer (chars text.now) ≡ Err e }
@@ -103,7 +103,8 @@ pub fn is_canonical_twice(text: &str) -> bool
 
 /// Returns `true` if a valid duration keeps its value without its whitespace, which it always does.
 pub fn needs_no_space(text: &str, squeezed: &str) -> bool
-    ensures { chars squeezed.now ≡ without_whitespace (chars text.now) → result ≡ true }
+    ensures same { chars squeezed.now ≡ without_whitespace (chars text.now) → result ≡ true }
+    ensures value { (v : ℕ) → Accepted (chars text.now) v → Accepted (without_whitespace (chars text.now)) v }
 {
     without_ws(text);
     match parse_duration(text) {
@@ -118,6 +119,7 @@ pub fn sum_of<'a>(a: &str, b: &str, both: &'a str) -> Result<StdDuration, Durati
     ensures second { IsZeroOrSpans (chars b.now) }
     ensures sum { (ss : List SpelledSpan) (ts : List SpelledSpan) (u : ℕ) (v : ℕ) → AcceptedAs (chars a.now) ss u → AcceptedAs (chars b.now) ts v → Accepted (chars a.now ++ chars b.now) (u + v) ↔ AllHaveRoom (additions ss ++ additions ts) }
     ensures overflow { (ss : List SpelledSpan) (ts : List SpelledSpan) (u : ℕ) (v : ℕ) → AcceptedAs (chars a.now) ss u → AcceptedAs (chars b.now) ts v → HasFault (chars a.now ++ chars b.now) NumberOverflow ↔ ¬ (AllHaveRoom (additions ss ++ additions ts)) }
+    ensures one { (u : ℕ) (v : ℕ) → Accepted (chars a.now) u → Accepted (chars b.now) v → chars a.now ≢ bare_zero → chars b.now ≢ bare_zero → Accepted (chars a.now ++ chars b.now) (u + v) ⊎ HasFault (chars a.now ++ chars b.now) NumberOverflow }
     ensures either { (u : ℕ) (v : ℕ) → duration_answer (chars a.now) ≡ Ok u → duration_answer (chars b.now) ≡ Ok v → chars a.now ≢ bare_zero → chars b.now ≢ bare_zero → (duration_answer (chars a.now ++ chars b.now) ≡ Ok (u + v)) ⊎ (duration_answer (chars a.now ++ chars b.now) ≡ Err NumberOverflow) }
     ensures answer { both.now ≡ a.now ++ b.now → result_view result ≡ duration_answer (chars a.now ++ chars b.now) }
 {
@@ -129,6 +131,7 @@ pub fn sum_of<'a>(a: &str, b: &str, both: &'a str) -> Result<StdDuration, Durati
 pub fn read_alike(a: &str, b: &str) -> bool
     ensures spans { (ss : List SpelledSpan) (ts : List SpelledSpan) → Reads (chars a.now) ss → Reads (chars b.now) ts → IsPermutation ss ts → result ≡ true }
     ensures texts { AreReordered (chars a.now) (chars b.now) → result ≡ true }
+    ensures value { (ss : List SpelledSpan) (ts : List SpelledSpan) (u : ℕ) (v : ℕ) → Reads (chars a.now) ss → Reads (chars b.now) ts → IsPermutation ss ts → Accepted (chars a.now) u → Accepted (chars b.now) v → u ≡ v }
     ensures zero { (spans : List SpelledSpan) → ¬ (Reads bare_zero spans) }
 {
     reordered(a, b);
