@@ -110,19 +110,20 @@ pub fn parse_rfc3339_weak(s: &str) -> Result<SystemTime, TimestampError>
 pub fn parse_rfc3339(s: &str) -> Result<SystemTime, TimestampError>
     ensures { IsStrictAnswer s.now result }
 {
-    read_strict(s.as_bytes())
+    read_strict(s)
 }
 
-/// Parses the bytes of a timestamp in the strict format. Returns the time, or the error of the first check that fails.
+/// Parses a timestamp in the strict format. Returns the time, or the error of the first check that fails.
 #[inline(always)]
 #[tactic(auto, unfolding(crate::proofs::TimestampOutcomes::answers_open))]
-fn read_strict(bytes: &[u8]) -> Result<SystemTime, TimestampError>
-    ensures { result ≡ strict_answer bytes.now }
+fn read_strict(s: &str) -> Result<SystemTime, TimestampError>
+    ensures { result ≡ strict_answer s.now }
 {
-    if !has_t_and_zone(bytes) {
+    if !has_t_and_zone(s.as_bytes()) {
         return Err(TimestampError::InvalidFormat);
     }
-    read_timestamp(bytes)
+    // The proof uses only the contract of the weak parser.
+    parse_rfc3339_weak(s)
 }
 
 /// Returns `true` if the string has at least 20 bytes, byte 10 is a `T`, and a zone is at the end.
