@@ -23,7 +23,8 @@ pub mod TimestampParts
 pub mod Checks
 pub mod TimestampOutcomes
 pub mod PrintedTimestamps
--- Values and buffers.
+-- Messages, values and buffers.
+pub mod Messages
 pub mod Moments
 pub mod StandardFacts
 pub mod Buffers

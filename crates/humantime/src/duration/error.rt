@@ -75,6 +75,7 @@ impl fmt::Display for DurationError<'_> {
 impl Error for DurationError<'_> {}
 
 /// Writes `text`, followed by `number` in decimal.
+#[tactic(auto, using(crate::proofs::Messages::texts_written))]
 fn write_number<W: fmt::Write>(text: &str, number: u64, f: &mut fmt::Formatter<W>) -> fmt::Result
     ensures writes { WritesOnOk W.write_str_gives f.old result (text.now ++ decimal number) f.new }
     ensures styled { WritesStyledOnOk W.write_str_gives f.old result (text.now ++ decimal number) f.new }
@@ -84,6 +85,7 @@ fn write_number<W: fmt::Write>(text: &str, number: u64, f: &mut fmt::Formatter<W
 }
 
 /// Writes the message for an unknown unit, or for a missing one if `unit` is empty. `value` is the number before it.
+#[tactic(auto, using(crate::proofs::Messages::texts_written))]
 fn write_unit<W: fmt::Write>(unit: &str, value: u64, f: &mut fmt::Formatter<W>) -> fmt::Result
     ensures writes { WritesOnOk W.write_str_gives f.old result (unit_message unit.now value) f.new }
     ensures styled { WritesStyledOnOk W.write_str_gives f.old result (unit_message unit.now value) f.new }
