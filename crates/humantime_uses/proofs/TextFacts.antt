@@ -1,11 +1,12 @@
--- What texts of durations consist of, at any length: whitespace, digits, letters, points, the words of the units; and messages.
-use Rattle.std.proofs.Common.{◌≡◌, ℕ, List, [], ◌∷◌, ◌++◌, map, filter, refl}
-use Rattle.std.specs.Prelude.{codes, bytes_eq, decimal, ◌&&◌, ◌||◌, ◌==◌, nat_le, not, IsPermutation}
+-- What texts of durations consist of, at any length: whitespace, digits, letters, points, the words of the units; messages; and laws.
+use Rattle.std.proofs.Common.{◌≡◌, ◌↔◌, ◌⊎◌, ℕ, List, [], ◌∷◌, ◌++◌, Ok, Err, map, filter, refl}
+use Rattle.std.specs.Prelude.{codes, bytes_eq, decimal, ◌&&◌, ◌||◌, ◌==◌, nat_le, not, true, option_to_list, IsPermutation}
+use Rattle.std.specs.List.{AllByRecursion}
 use Rattle.std.specs.Char.{char_set_contains}
 use Rattle.std.specs.Map.{lookup}
 use Rattle.humantime.specs.declared.TimestampError.TheVariants.{OutOfRange, InvalidDigit, InvalidFormat}
-use Rattle.humantime.specs.Prelude.{AreReordered, Reads, SpelledSpan, InvalidCharacter, NumberExpected, UnknownUnit, NumberOverflow, Empty, fault_message, timestamp_message, without_whitespace}
-use Rattle.humantime.specs.Laws.{is_gap}
+use Rattle.humantime.specs.Prelude.{Accepted, AreReordered, ExactlyOne, HasFault, IsTiled, Reads, SpanView, SpelledSpan, WithinLimits, slices_of, Fault, InvalidCharacter, NumberExpected, UnknownUnit, NumberOverflow, Empty, fault_message, timestamp_message, without_whitespace}
+use Rattle.humantime.specs.Laws.{IsOutcome, IsZeroOrSpans, is_gap}
 use Rattle.humantime.specs.Characters.{whitespace_chars, is_whitespace, is_digit, is_letter, is_point}
 use Rattle.humantime.specs.Durations.{in_nanos, in_seconds, in_seconds_and_nanos, scale_of_word, whole_nanos, words}
 
@@ -60,6 +61,23 @@ any_order : (text other : List ℕ) (spans others : List SpelledSpan) → Reads 
     → AreReordered text other
 any_order text other spans others reads other_reads moved =
     record { spans = spans; others = others; reads = reads; other_reads = other_reads; moved = moved }
+
+-- ---- what the laws say
+
+any_law : {A : Type 0} (IsSo : A → Type 0) (text : List ℕ) (v : ℕ) (e : Fault)
+    → (ExactlyOne IsSo → (x : A) × IsSo x × ((other : A) → IsSo other → other ≡ x))
+    × (IsOutcome text (Ok v) → Accepted text v) × (IsOutcome text (Err e) → HasFault text e)
+    × (IsZeroOrSpans text
+    → ((v : ℕ) × Accepted text v) ↔ ((text ≡ codes "0") ⊎ ((spans : List SpelledSpan) × Reads text spans × WithinLimits spans)))
+any_law IsSo text v e = (λ h. h, λ h. h, λ h. h, λ h. h)
+
+-- The slices of items follow each other, and only gaps are around them.
+any_tiles : (text slice : List ℕ) (slices : List (List ℕ)) (x : SpanView) (e : Fault)
+    → (IsTiled text [] → AllByRecursion (λ c. is_gap c ≡ true) text)
+    × (IsTiled text (slice ∷ slices)
+    → (gap : List ℕ) × (after : List ℕ) × (text ≡ gap ++ (slice ++ after)) × IsTiled gap [] × IsTiled after slices)
+    × (slices_of (Ok x) ≡ x.number ∷ option_to_list x.fraction ++ x.unit ∷ []) × (slices_of (Err e) ≡ [])
+any_tiles text slice slices x e = (λ h. h, λ h. h, refl, refl)
 
 -- ---- messages
 
