@@ -10,12 +10,14 @@ ghost use Rattle.humantime.specs.Timestamps.{has_digits, has_two, number_between
 ghost use Rattle.humantime_std.specs.Located as spec;
 ghost use Rattle.humantime_std.specs.Located.{BeginsSpans, Fit, IsFaultRange, IsRangeIn, OverflowsAt, body, end_at, start_at, strict_error, weak_error};
 
+mod carets;
+
+pub use carets::Underline;
 use humantime::{
     Date, DurationError, StdDuration, SystemTime, TimestampError, Turns, day_number, spans,
 };
 use std::error::Error;
 use std::fmt::{self, Display};
-use unicode_width::UnicodeWidthStr;
 
 /// An error of a parser, and the range of the bytes that are wrong. The parsers return ranges that begin and end at `char` boundaries.
 ///
@@ -91,57 +93,16 @@ impl<E> Located<E> {
 
 /// Writes the message of the error.
 impl<E: Display> Display for Located<E> {
+    ghost output = { λ x. E.output x.error };
+
+    ghost styled_output = { λ x s. E.styled_output x.error s };
+
     fn fmt<W: fmt::Write>(&self, f: &mut fmt::Formatter<W>) -> fmt::Result {
         self.error.fmt(f)
     }
 }
 
 impl<E: Error> Error for Located<E> {}
-
-/// A caret line to print under another line: `^` under each column of a part of it.
-///
-/// The columns are those of a terminal as the crate `unicode_width` counts them: two for a wide character such as `中`, none for a combining
-/// one. A tab in the part, and a line feed in either, cannot be underlined as a terminal shows it.
-///
-/// # Examples
-///
-/// ```
-/// use humantime_std::located::Underline;
-///
-/// let mark = Underline { before: "\tµ ", part: "2018" };
-/// assert_eq!(rt; mark.to_string(rt.alloc())?.as_str(), "\t  ^^^^");
-/// let mark = Underline { before: "2018", part: "" };
-/// assert_eq!(rt; mark.to_string(rt.alloc())?.as_str(), "    ^");
-/// let mark = Underline { before: "5中 ", part: "\u{3000}e\u{301}" };
-/// assert_eq!(rt; mark.to_string(rt.alloc())?.as_str(), "    ^^^");
-/// ```
-#[derive(Clone, Copy, Debug)]
-pub struct Underline<'a> {
-    /// The line up to the part. Its tabs are printed, so that the carets are under the part.
-    pub before: &'a str,
-    /// The part. If it takes no column, one `^` is printed.
-    pub part: &'a str,
-}
-
-impl Display for Underline<'_> {
-    fn fmt<W: fmt::Write>(&self, f: &mut fmt::Formatter<W>) -> fmt::Result {
-        for (tabs, piece) in self.before.split('\t').enumerate() {
-            if tabs > 0 {
-                f.write_str("\t")?;
-            }
-            fill(f, " ", piece.width())?;
-        }
-        fill(f, "^", self.part.width().max(1))
-    }
-}
-
-/// Writes a string as many times as there are columns.
-fn fill<W: fmt::Write>(f: &mut fmt::Formatter<W>, text: &str, columns: usize) -> fmt::Result {
-    for _i in 0..columns {
-        f.write_str(text)?;
-    }
-    Ok(())
-}
 
 /// What can stand at each of the first 19 bytes: `0` is any digit, a space is a `T` or, in the weak format, a space, and another byte is
 /// that byte.

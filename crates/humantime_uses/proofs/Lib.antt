@@ -1,4 +1,5 @@
 pub mod Callers
+pub mod CaretColumns
 pub mod Kept
 pub mod LimitFacts
 pub mod RowFacts

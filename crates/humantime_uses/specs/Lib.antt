@@ -1,1 +1,2 @@
+pub mod CaretColumns
 pub mod SpanItems

@@ -7,6 +7,7 @@
 
 pub mod buffers;
 pub mod calendar;
+pub mod carets;
 pub mod counted_calendar;
 pub mod displays;
 pub mod durations;

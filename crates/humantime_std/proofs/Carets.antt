@@ -1,0 +1,71 @@
+-- What stands under a line up to a part, piece by piece.
+use Rattle.std.proofs.Common.{arith, ◌≡◌, ℕ, zero, suc, ◌<◌, true, false, List, [], ◌∷◌, ◌++◌, length, map, refl, sym, ap, subst, ◌∙◌, append_assoc, replicate}
+use Rattle.std.proofs.Output.{has_written_styled_append, has_written_styled_of_eq}
+use Rattle.std.proofs.lemmas.List.{length-replicate}
+use Rattle.std.proofs.lemmas.List.Splits.{slice_split_first, slice_split_none, length-slice_split}
+use Rattle.std.proofs.lemmas.List.Sums.{fails_before_first}
+use Rattle.std.proofs.lemmas.Str.{chars-IsAscii}
+use Rattle.std.specs.Fmt.{HasWritten, HasWrittenStyled, IsDefaultSpec, IsPlainFormatter}
+use Rattle.std.specs.declared.fmt.Formatter.{Formatter}
+use Rattle.std.specs.Int.{is_in_range}
+use Rattle.std.specs.List.{list_all, position_or_len, before_first, after_first, join_with_byte, slice_split}
+use Rattle.std.specs.Prelude.{max}
+use Rattle.std.specs.Str.{IsAscii}
+use Rattle.unicode_width.specs.Width.{str_width}
+use Rattle.unicode_width.proofs.Rules.{str_width-printable}
+use Rattle.humantime_std.specs.Carets.{columns, blanks, caret_line, is_tab}
+
+-- What is written whatever the options are, is written without options.
+pub written_plainly : {W : Type 0} (took : W → List ℕ → W → Type 0) (f : Formatter W) (bs : List ℕ) (g : Formatter W)
+    → IsPlainFormatter f → HasWrittenStyled took f bs g → HasWritten took f bs g
+written_plainly took f bs g plain w = record { wrote = w.wrote; plain = record { bare = subst IsDefaultSpec (sym w.spec) plain.bare; flush = w.flush } }
+
+joined : (f : List ℕ → List ℕ) (x : List ℕ) (pieces : List (List ℕ)) → 0 < length pieces
+    → join_with_byte 9 (x ∷ map f pieces) ≡ x ++ (9 ∷ join_with_byte 9 (map f pieces))
+joined f x [] some = absurd (omega arith)
+joined f x (piece ∷ pieces) some = refl
+
+-- What has been written, and what stands under the rest of the line up to a part, are all that stands under it.
+pub record Under {W : Type 0} (took : W → List ℕ → W → Type 0) (f : Formatter W) (rest before : List ℕ) (g : Formatter W) : Type 0 where
+  pub done : List ℕ
+  pub wrote : HasWrittenStyled took f done g
+  pub whole : done ++ blanks rest ≡ blanks before
+
+-- No tab follows.
+pub last_piece : {W : Type 0} {took : W → List ℕ → W → Type 0} {f g h : Formatter W} {rest before : List ℕ} {n : ℕ} → Under took f rest before g
+    → HasWrittenStyled took g (replicate n 32) h → n ≡ columns rest → position_or_len is_tab rest ≡ length rest → HasWrittenStyled took f (blanks before) h
+last_piece {took} {f} {g} {h} {rest} {before} {n} now filled width none =
+    let one = slice_split_none is_tab rest (λ k d few. fails_before_first is_tab rest k d (omega (arith, none))) in
+    let last : blanks rest ≡ replicate n 32 = rw (one, width) refl in
+    has_written_styled_of_eq took f _ _ h (rw (← last) now.whole) (has_written_styled_append took f _ g _ h now.wrote filled)
+
+-- A piece and the next tab are written.
+pub next_piece : {W : Type 0} {took : W → List ℕ → W → Type 0} {f g h i : Formatter W} {rest after before : List ℕ} {n : ℕ} (piece : List ℕ) → Under took f rest before g
+    → HasWrittenStyled took g (replicate n 32) h → HasWrittenStyled took h (9 ∷ []) i → n ≡ columns piece
+    → (piece ≡ before_first is_tab rest) × (after ≡ after_first is_tab rest) × (position_or_len is_tab rest < length rest) → Under took f after before i
+next_piece {took} {f} {g} {h} {i} {rest} {after} {before} {n} piece now filled tab width is =
+    let parts = slice_split_first is_tab rest 0 is.2 in
+    let more = joined (λ p. replicate (columns p) 32) (replicate (columns piece) 32) (slice_split is_tab after) (omega (arith, length-slice_split is_tab after)) in
+    let next : blanks rest ≡ replicate n 32 ++ (9 ∷ blanks after) = rw (parts, width, ← is.0, ← is.1) more in record {
+      done = _;
+      wrote = has_written_styled_append took f _ h _ i (has_written_styled_append took f _ g _ h now.wrote filled) tab;
+      whole = simp append_assoc (rw next at now.whole);
+    }
+
+-- The carets are written.
+pub carets_written : {W : Type 0} {took : W → List ℕ → W → Type 0} {f g h : Formatter W} (before part : List ℕ) {n : ℕ} → HasWrittenStyled took f (blanks before) g
+    → HasWrittenStyled took g (replicate n 94) h → n ≡ max (columns part) 1 → HasWrittenStyled took f (caret_line before part) h
+carets_written {took} {f} {g} {h} before part {n} blank carets is = rw is at (has_written_styled_append took f _ g _ h blank carets)
+
+ascii : (n : ℕ) → IsAscii (replicate n 32)
+ascii zero i = omega arith
+ascii (suc n) zero = omega arith
+ascii (suc n) (suc i) = ascii n i
+
+printable : (n : ℕ) → list_all (is_in_range 0x20 0x7E) (replicate n 32) ≡ true
+printable zero = refl
+printable (suc n) = printable n
+
+-- A space has one column.
+pub columns_of_spaces : (n : ℕ) → columns (replicate n 32) ≡ n
+columns_of_spaces n = ap (str_width false) (chars-IsAscii (replicate n 32) (ascii n)) ∙ str_width-printable false (replicate n 32) (printable n) ∙ length-replicate n 32

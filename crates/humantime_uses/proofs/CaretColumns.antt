@@ -1,0 +1,52 @@
+-- A caret line stands under its part.
+use Rattle.std.proofs.Common.{◌≡◌, ◌+◌, ◌<◌, ◌⊎◌, ℕ, false, List, [], ◌∷◌, ◌++◌, length, map, replicate, refl, ap, ◌∙◌, inl, inr, arith}
+use Rattle.std.specs.Prelude.{All, codes, slice_range, take}
+use Rattle.std.specs.List.{join_with_byte, slice_split}
+use Rattle.std.proofs.lemmas.List.Elements.{All-append, All-cons, All-nil, All-replicate}
+use Rattle.std.proofs.lemmas.List.Splits.{length-slice_split, slice_split_at, slice_split_none}
+use Rattle.humantime_std.specs.Carets.{blanks, caret_line, columns, is_tab}
+use Rattle.humantime_std.proofs.Carets.{columns_of_spaces}
+use Rattle.humantime_uses.specs.CaretColumns.{ShowsRange, StandsUnder, column_of_pieces}
+
+abbrev spaces : List ℕ → List ℕ
+spaces piece = replicate (columns piece) 32
+
+abbrev IsBlank : ℕ → Type 0
+IsBlank b = (b ≡ 32) ⊎ (b ≡ 9)
+
+-- The pieces between the tabs of a joined line are those that were joined, if they are spaces.
+split_joined : (pieces : List (List ℕ)) → 0 < length pieces → slice_split is_tab (join_with_byte 9 (map spaces pieces)) ≡ map spaces pieces
+split_joined [] some = absurd (omega arith)
+split_joined (p ∷ []) some = slice_split_none is_tab (spaces p) (All-replicate (λ b. is_tab b ≡ false) (columns p) 32 refl)
+split_joined (p ∷ q ∷ ps) some =
+    slice_split_at is_tab (spaces p) 9 (join_with_byte 9 (map spaces (q ∷ ps))) (All-replicate (λ b. is_tab b ≡ false) (columns p) 32 refl) refl
+    ∙ ap (λ rest. spaces p ∷ rest) (split_joined (q ∷ ps) (omega arith))
+
+-- Pieces of spaces lead to the column to which the pieces lead that have as many columns.
+same_column : (stop : ℕ → ℕ) (column : ℕ) (pieces : List (List ℕ)) → column_of_pieces stop column (map spaces pieces) ≡ column_of_pieces stop column pieces
+same_column stop column [] = refl
+same_column stop column (p ∷ []) = ap (λ n. column + n) (columns_of_spaces (columns p))
+same_column stop column (p ∷ q ∷ ps) =
+    ap (λ n. column_of_pieces stop (stop (column + n)) (map spaces (q ∷ ps))) (columns_of_spaces (columns p)) ∙ same_column stop (stop (column + columns p)) (q ∷ ps)
+
+joined_blank : (pieces : List (List ℕ)) → All IsBlank (join_with_byte 9 (map spaces pieces))
+joined_blank [] = All-nil IsBlank
+joined_blank (p ∷ []) = All-replicate IsBlank (columns p) 32 (inl refl)
+joined_blank (p ∷ q ∷ ps) = All-append IsBlank (spaces p) _ (All-replicate IsBlank (columns p) 32 (inl refl)) (All-cons IsBlank 9 _ (inr refl) (joined_blank (q ∷ ps)))
+
+pub stands_under : (before part : List ℕ) → StandsUnder before part (caret_line before part)
+stands_under before part =
+    let pieces = slice_split is_tab before in
+    let split : slice_split is_tab (blanks before) ≡ map spaces pieces = split_joined pieces (omega (arith, length-slice_split is_tab before)) in
+    record {
+      blanks = blanks before;
+      whole = refl;
+      blank = joined_blank pieces;
+      begins = λ stop column. ap (column_of_pieces stop column) split ∙ same_column stop column pieces;
+    }
+
+-- A line of carets below a text shows a range, if the text is cut there.
+pub shows_range : (text before part lines : List ℕ) (start end : ℕ) → before ≡ take start text → part ≡ slice_range text start end
+    → lines ≡ text ++ (codes "\n" ++ caret_line before part) → ShowsRange text start end lines
+shows_range text before part lines start end front cut is =
+    record { carets = caret_line before part; under = rw (← front, ← cut) (stands_under before part); whole = is }

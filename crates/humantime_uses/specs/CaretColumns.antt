@@ -1,0 +1,30 @@
+-- Where the carets under a line are, as one sees them in a terminal. A text is its list of bytes.
+use Rattle.std.specs.Prelude.{◌≡◌, ◌+◌, ◌++◌, ◌⊎◌, ℕ, List, [], ◌∷◌, All, codes, max, replicate, slice_range, take}
+use Rattle.std.specs.List.{slice_split}
+use Rattle.std.specs.Str.{byte}
+use Rattle.humantime_std.specs.Carets.{columns, is_tab}
+
+-- Returns the column after pieces of a line with a tab between each two. The line begins in a column, and a tab leads from a column to that of
+-- the next tab stop.
+abbrev pub column_of_pieces : (ℕ → ℕ) → ℕ → List (List ℕ) → ℕ
+column_of_pieces stop column [] = column
+column_of_pieces stop column (piece ∷ []) = column + columns piece
+column_of_pieces stop column (piece ∷ next ∷ pieces) = column_of_pieces stop (stop (column + columns piece)) (next ∷ pieces)
+
+-- Returns the column after a text.
+abbrev pub column_after : (ℕ → ℕ) → ℕ → List ℕ → ℕ
+column_after stop column text = column_of_pieces stop column (slice_split is_tab text)
+
+-- The carets stand under the part of a line that comes after `before`: only spaces and tabs come before them, they begin in the column in which
+-- the part begins, wherever the line begins and the tab stops are, and there is one for each column of the part, at least one.
+pub record StandsUnder (before part carets : List ℕ) : Type 0 where
+  pub blanks : List ℕ
+  pub whole : carets ≡ blanks ++ replicate (max (columns part) 1) (byte "^")
+  pub blank : All (λ b. (b ≡ byte " ") ⊎ (b ≡ byte "\t")) blanks
+  pub begins : (stop : ℕ → ℕ) (column : ℕ) → column_after stop column blanks ≡ column_after stop column before
+
+-- The lines show the bytes of a text between two offsets: the text, and below it carets under these bytes.
+pub record ShowsRange (text : List ℕ) (start end : ℕ) (lines : List ℕ) : Type 0 where
+  pub carets : List ℕ
+  pub under : StandsUnder (take start text) (slice_range text start end) carets
+  pub whole : lines ≡ text ++ (codes "\n" ++ carets)
