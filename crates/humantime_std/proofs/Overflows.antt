@@ -142,7 +142,7 @@ front_decides bs tail t k end utf8 other found cut trim =
 -- ---- The fault
 
 -- A text that overflows, and whose first `k` spans and no more are within the limits, overflows at the next span, or to its end if there is none.
-pub overflows_after : (bs : List ℕ) (k : ℕ) (end : Option ℕ) → IsUtf8 bs → duration_answer (chars bs) ≡ Err NumberOverflow → Fit (chars bs) k → ¬ (Fit (chars bs) (suc k))
+overflows_after : (bs : List ℕ) (k : ℕ) (end : Option ℕ) → IsUtf8 bs → duration_answer (chars bs) ≡ Err NumberOverflow → Fit (chars bs) k → ¬ (Fit (chars bs) (suc k))
     → SomeIff end (BeginsSpans (suc k) (body (chars bs))) (end_at k (chars bs)) → OverflowsAt (chars bs) (start_at k (chars bs)) (unwrap_or end (length bs))
 overflows_after bs k (Some end) utf8 over fit beyond is =
     let h = fault_from_outcome _ _ over in
@@ -170,6 +170,10 @@ overflows_after bs k None utf8 over fit beyond none =
       at_start = refl;
       at_end = rw long (sym (ap length (encodes-chars bs utf8)));
     }
+
+pub overflows_at : (bs : List ℕ) (k j : ℕ) (end : Option ℕ) → IsUtf8 bs → duration_answer (chars bs) ≡ Err NumberOverflow → Fit (chars bs) k → ¬ (Fit (chars bs) (suc k))
+    → SomeIff end (BeginsSpans (suc j) (body (chars bs))) (end_at j (chars bs)) → j ≡ k → OverflowsAt (chars bs) (start_at k (chars bs)) (unwrap_or end (length bs))
+overflows_at bs k j end utf8 over fit beyond found same = overflows_after bs k end utf8 over fit beyond (rw same at found)
 
 -- A text overflows at characters.
 pub overflow_inside : (bs : List ℕ) (start end : ℕ) → IsUtf8 bs → OverflowsAt (chars bs) start end → IsRangeIn bs start end
