@@ -1,22 +1,26 @@
 -- The next run of a job.
-use Rattle.std.proofs.Common.{◌≡◌, ◌↔◌, ℕ, ◌+◌, ◌*◌, ◌<◌, ◌≤◌, ℤ, pos, ◌+ℤ◌, ◌≤ℤ◌, ◌<ℤ◌, Option, None, Some, IsNone, IfSome, SomeIff, arith, subst, sym, rules}
+use Rattle.std.proofs.Common.{◌≡◌, ◌↔◌, ℕ, zero, suc, ◌+◌, ◌*◌, ◌<◌, ◌≤◌, ℤ, pos, ◌+ℤ◌, ◌≤ℤ◌, ◌<ℤ◌, Option, None, Some, IsNone, IfSome, SomeIff, arith, refl, subst, sym, rules}
+use Rattle.std.specs.Int.{div_ceil}
 use Rattle.std.proofs.lemmas.Bool.{cases_lt}
+use Rattle.std.proofs.lemmas.Grind.{common_steps, div_ceil_times}
 use Rattle.std.proofs.lemmas.Int.{ints}
 use Rattle.std.proofs.lemmas.Nat.{mul-le, row_fits}
 use Rattle.humantime.specs.Prelude.{moment_end}
 use Rattle.humantime_std.specs.Schedule.{IsDue, IsNextRun}
 
--- The first run is the next one if `now` is not after the last run.
-pub first_run : (last now : ℤ) (every : ℕ) → now ≤ℤ last → IsNextRun last every now (last +ℤ pos every)
+pub ruleset waits = (common_steps, ints, div_ceil_times)
+
+-- The first run is the next one if there is no gap.
+first_run : (last now : ℤ) (every : ℕ) → now ≤ℤ last → IsNextRun last every now (last +ℤ pos every)
 first_run last now every early = record {
   due = record { periods = 1; later = omega arith; at = omega (arith, ints); reached = omega (arith, ints) };
   first = λ u due. omega (arith, ints, mul-le 1 every due.periods every due.later (omega arith));
 }
 
--- The time after a wait that is shorter than a period is the next run if the gap and the wait are whole periods.
-pub run_after_wait : (last now : ℤ) (gap every wait k : ℕ) → now ≡ last +ℤ pos gap → 0 < gap → gap + wait ≡ k * every → wait < every
-    → IsNextRun last every now (now +ℤ pos wait)
-run_after_wait last now gap every wait k is some whole short =
+-- Whole periods that are not shorter than the gap, but shorter than the gap and one more period, lead to the next run.
+run_after_gap : (last now : ℤ) (gap every wait k : ℕ) → now ≡ last +ℤ pos gap → 0 < gap → wait ≡ k * every → gap ≤ wait → wait < gap + every
+    → IsNextRun last every now (last +ℤ pos wait)
+run_after_gap last now gap every wait k is some whole reached short =
     let least : (j : ℕ) → gap ≤ j * every → k * every ≤ j * every = λ j reached. grind (arith, (cases_lt j k), (row_fits j every k every), (mul-le k every j every)) in
     record {
       due = record { periods = k; later = grind arith; at = omega (arith, ints); reached = omega (arith, ints) };
@@ -24,7 +28,7 @@ run_after_wait last now gap every wait k is some whole short =
     }
 
 -- An answer is the next run if that is in range, and otherwise no run in range is due.
-pub is_answer : (last now t : ℤ) (every : ℕ) (r : Option ℤ) → IsNextRun last every now t → SomeIff r (t <ℤ moment_end) t
+is_answer : (last now t : ℤ) (every : ℕ) (r : Option ℤ) → IsNextRun last every now t → SomeIff r (t <ℤ moment_end) t
     → IfSome r (IsNextRun last every now) × (IsNone r ↔ ((u : ℤ) → IsDue last every now u → moment_end ≤ℤ u))
 is_answer last now t every None is given =
     (tt, (λ none u due. grind (arith, ints, (is.first u due)), λ all. search rules))
@@ -32,3 +36,17 @@ is_answer last now t every (Some x) is given = (
   subst (IsNextRun last every now) (sym given.1) is,
   (λ none. absurd (search rules), λ all. absurd (omega (arith, ints, all t is.due))),
 )
+
+-- The answer after a gap.
+pub next_from_gap : (last now : ℤ) (gap every : ℕ) (r : Option ℤ) → let t = last +ℤ pos every in let later = last +ℤ pos (div_ceil gap every * every) in
+    (gap ≡ 0 → SomeIff r (t <ℤ moment_end) t) → (0 < gap → every ≡ 0 → IsNone r) → (0 < gap → 0 < every → SomeIff r (later <ℤ moment_end) later)
+    → (now ≤ℤ last → gap ≡ 0) → (last ≤ℤ now → now ≡ last +ℤ pos gap)
+    → IfSome r (IsNextRun last every now) × (IsNone r ↔ ((u : ℤ) → IsDue last every now u → moment_end ≤ℤ u))
+next_from_gap last now zero every r first never next early late =
+    is_answer last now _ every r (first_run last now every (grind (arith, ints, late))) (first refl)
+next_from_gap last now (suc g) zero None first never next early late = (tt, (λ none u due. absurd (grind (arith, ints, early, due)), λ all. search rules))
+next_from_gap last now (suc g) zero (Some x) first never next early late = absurd (search (rules, never (omega arith) refl))
+next_from_gap last now (suc g) (suc e) r first never next early late =
+    let ends = div_ceil_times (suc g) (suc e) (omega arith) in
+    let whole = run_after_gap last now (suc g) (suc e) _ (div_ceil (suc g) (suc e)) (late (grind (arith, ints, early))) (omega arith) refl ends.0 ends.1 in
+    is_answer last now _ (suc e) r whole (next (omega arith) (omega arith))

@@ -1,6 +1,7 @@
 //! Times of std, a time minus a duration, and the next run of a job.
 
-ghost use Rattle.std.specs.Prelude.{◌≡◌, ◌+◌, ◌*◌, ◌<◌, ◌↔◌, ◌-ℤ◌, ◌≤ℤ◌, ◌<ℤ◌, ℤ, Some, pos, neg_ℤ, IfSome, IsNone, IsSome, SomeIff};
+ghost use Rattle.std.specs.Prelude.{◌≡◌, ◌+◌, ◌*◌, ◌<◌, ◌↔◌, ◌+ℤ◌, ◌-ℤ◌, ◌≤ℤ◌, ◌<ℤ◌, ℤ, Some, pos, neg_ℤ, IfSome, IsNone, IsSome, SomeIff};
+ghost use Rattle.std.specs.Int.{div_ceil};
 ghost use Rattle.std.specs.Time.{FitsClock, system_time_nanos};
 ghost use Rattle.humantime.specs.Prelude.{moment_end};
 ghost use Rattle.humantime_std.specs.Schedule.{IsDue, IsNextRun};
@@ -123,13 +124,22 @@ pub fn next_run(last: SystemTime, every: StdDuration, now: SystemTime) -> Option
     ensures next { IfSome result (IsNextRun last every now) }
     ensures none { IsNone result ↔ ((t : ℤ) → IsDue last every now t → moment_end ≤ℤ t) }
 {
-    if now <= last {
-        return last.checked_add(every);
-    }
-    let (gap, every) = (now.duration_since(last).ok()?.as_nanos(), every.as_nanos());
-    if every == 0 {
-        return None;
-    }
-    let wait = gap.div_ceil(every) * every - gap;
-    now.checked_add(StdDuration::checked_from_nanos_u128(wait)?)
+    let gap = now.duration_since(last).unwrap_or(StdDuration::ZERO);
+    run_after(last, gap, every)
+}
+
+/// Returns the first of the times `last + every`, `last + 2 * every` and so on that is not before `last + gap`, if it is a `SystemTime`.
+#[tactic(auto, using(crate::proofs::NextRuns::waits))]
+fn run_after(last: SystemTime, gap: StdDuration, every: StdDuration) -> Option<SystemTime>
+    ensures first { let t = last +ℤ pos every in gap ≡ 0 → SomeIff result (t <ℤ moment_end) t }
+    ensures never { 0 < gap → every ≡ 0 → IsNone result }
+    ensures later { let t = last +ℤ pos (div_ceil gap every * every) in 0 < gap → 0 < every → SomeIff result (t <ℤ moment_end) t }
+{
+    let (gap, every) = (gap.as_nanos(), every.as_nanos());
+    let wait = match gap {
+        0 => every,
+        _ if every == 0 => return None,
+        _ => gap.div_ceil(every) * every,
+    };
+    last.checked_add(StdDuration::checked_from_nanos_u128(wait)?)
 }
