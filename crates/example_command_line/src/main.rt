@@ -1,4 +1,4 @@
-//! Prints the options of a command line. `--help` shows their defaults as canonical strings, and a wrong value is underlined.
+//! Prints the options of a command line. `--help` shows their defaults as canonical strings, and a wrong value has carets under the error.
 //!
 //! The exit status is 0, or 2 for wrong arguments, or 1 if writing fails or an allocation fails.
 #![tactic(auto)]
@@ -43,25 +43,37 @@ fn main(rt: HostRuntime) -> io::Result<ExitCode> {
 pub fn options_of(alloc: Global, words: &[String]) -> Result<Options, Error> {
     let mut command = command(alloc)?;
     let matches = command.try_get_matches_from_mut(words)?;
-    let timeout = matches.get_str("timeout").unwrap_or("");
-    let window = matches.get_str("window").unwrap_or("");
-    let since = matches.get_str("since");
-    let (name, message) = match (
-        parse_duration(timeout),
-        parse_duration(window),
-        since.map(|text| parse_rfc3339_weak(text)).transpose(),
-    ) {
-        (Ok(timeout), Ok(window), Ok(since)) => return Ok(Options {
-            timeout: Duration::new(timeout),
-            window: Duration::new(window),
-            since: since.map(|time| Timestamp::from(time)),
-        }),
-        (Err(error), _, _) => ("timeout", marked(alloc, timeout, error)?),
-        (_, Err(error), _) => ("window", marked(alloc, window, error)?),
-        (_, _, Err(error)) => ("since", marked(alloc, since.unwrap_or(""), error)?),
+    let text = matches.get_str("timeout").unwrap_or("");
+    let timeout = value_of(alloc, &mut command, "timeout", text, parse_duration(text))?;
+    let text = matches.get_str("window").unwrap_or("");
+    let window = value_of(alloc, &mut command, "window", text, parse_duration(text))?;
+    let since = match matches.get_str("since") {
+        Some(text) => Some(value_of(alloc, &mut command, "since", text, parse_rfc3339_weak(text))?),
+        None => None,
     };
-    let message = format!(in alloc; "--{name}: {message}")?;
-    Err(command.error(ErrorKind::ValueValidation, &message)?)
+    Ok(Options {
+        timeout: Duration::new(timeout),
+        window: Duration::new(window),
+        since: since.map(|time| Timestamp::from(time)),
+    })
+}
+
+/// Returns the value of an option, or an error with its name, what is wrong with its string, and carets under that. A value parser of
+/// `clap` cannot return such an error.
+fn value_of<T, E: Display + Drop>(
+    alloc: Global,
+    command: &mut Command<'_>,
+    name: &str,
+    text: &str,
+    parsed: Result<T, Located<E>>,
+) -> Result<T, Error> {
+    match parsed {
+        Ok(value) => Ok(value),
+        Err(error) => {
+            let message = format!(in alloc; "--{name}: {}", error.report(text))?;
+            Err(command.error(ErrorKind::ValueValidation, &message)?)
+        }
+    }
 }
 
 /// Creates the command. A duration may begin with a hyphen, so that the library says what is wrong with `-1s`.
@@ -73,13 +85,4 @@ fn command<'a>(alloc: Global) -> Result<Command<'a>, AllocError> {
         .arg(timeout.allow_hyphen_values(true))?
         .arg(window.allow_hyphen_values(true))?
         .arg(since)
-}
-
-/// Returns the message for a wrong value: what is wrong, and the text with a mark under it.
-fn marked<E: Display + Drop>(
-    alloc: Global,
-    text: &str,
-    error: Located<E>,
-) -> Result<String, AllocError> {
-    format!(in alloc; "{error}\n  {text}\n  {}", error.underline(text))
 }

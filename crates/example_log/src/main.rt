@@ -33,8 +33,7 @@ fn main(rt: HostRuntime) -> io::Result<ExitCode> {
             Ok(ExitCode::SUCCESS)
         }
         Err((name, text, error)) => {
-            let mark = error.underline(text);
-            eprintln!(rt; "example_log: {name}: {error}\n  {text}\n  {mark}")?;
+            eprintln!(rt; "example_log: {name}: {}", error.report(text))?;
             Ok(ExitCode::from(2))
         }
     }

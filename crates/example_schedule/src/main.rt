@@ -41,10 +41,8 @@ enum Wrong<'a> {
 impl fmt::Display for Wrong<'_> {
     fn fmt<W: fmt::Write>(&self, f: &mut fmt::Formatter<W>) -> fmt::Result {
         match self {
-            Wrong::Time(text, error) => write!(f, "{error}\n  {text}\n  {}", error.underline(text)),
-            Wrong::Duration(text, error) => {
-                write!(f, "{error}\n  {text}\n  {}", error.underline(text))
-            }
+            Wrong::Time(text, error) => error.report(text).fmt(f),
+            Wrong::Duration(text, error) => error.report(text).fmt(f),
             Wrong::Retry(text) => write!(f, "not of the form FIRST..MOST xN\n  {text}"),
         }
     }

@@ -1,18 +1,12 @@
 -- What stands under a line up to a part, piece by piece.
 use Rattle.std.proofs.Common.{arith, ◌≡◌, ℕ, zero, suc, ◌<◌, true, false, List, [], ◌∷◌, ◌++◌, length, map, refl, sym, ap, subst, ◌∙◌, append_assoc, replicate}
 use Rattle.std.proofs.Output.{has_written_styled_append, has_written_styled_of_eq}
-use Rattle.std.proofs.lemmas.List.{length-replicate}
 use Rattle.std.proofs.lemmas.List.Splits.{slice_split_first, slice_split_none, length-slice_split}
 use Rattle.std.proofs.lemmas.List.Sums.{fails_before_first}
-use Rattle.std.proofs.lemmas.Str.{chars-IsAscii}
 use Rattle.std.specs.Fmt.{HasWritten, HasWrittenStyled, IsDefaultSpec, IsPlainFormatter}
 use Rattle.std.specs.declared.fmt.Formatter.{Formatter}
-use Rattle.std.specs.Int.{is_in_range}
-use Rattle.std.specs.List.{list_all, position_or_len, before_first, after_first, join_with_byte, slice_split}
+use Rattle.std.specs.List.{position_or_len, before_first, after_first, join_with_byte, slice_split}
 use Rattle.std.specs.Prelude.{max}
-use Rattle.std.specs.Str.{IsAscii}
-use Rattle.unicode_width.specs.Width.{str_width}
-use Rattle.unicode_width.proofs.Rules.{str_width-printable}
 use Rattle.humantime_std.specs.Carets.{columns, blanks, caret_line, is_tab}
 
 -- What is written whatever the options are, is written without options.
@@ -56,16 +50,3 @@ next_piece {took} {f} {g} {h} {i} {rest} {after} {before} {n} piece now filled t
 pub carets_written : {W : Type 0} {took : W → List ℕ → W → Type 0} {f g h : Formatter W} (before part : List ℕ) {n : ℕ} → HasWrittenStyled took f (blanks before) g
     → HasWrittenStyled took g (replicate n 94) h → n ≡ max (columns part) 1 → HasWrittenStyled took f (caret_line before part) h
 carets_written {took} {f} {g} {h} before part {n} blank carets is = rw is at (has_written_styled_append took f _ g _ h blank carets)
-
-ascii : (n : ℕ) → IsAscii (replicate n 32)
-ascii zero i = omega arith
-ascii (suc n) zero = omega arith
-ascii (suc n) (suc i) = ascii n i
-
-printable : (n : ℕ) → list_all (is_in_range 0x20 0x7E) (replicate n 32) ≡ true
-printable zero = refl
-printable (suc n) = printable n
-
--- A space has one column.
-pub columns_of_spaces : (n : ℕ) → columns (replicate n 32) ≡ n
-columns_of_spaces n = ap (str_width false) (chars-IsAscii (replicate n 32) (ascii n)) ∙ str_width-printable false (replicate n 32) (printable n) ∙ length-replicate n 32

@@ -24,5 +24,5 @@ mod times;
 
 pub use clocks::{deadline, elapsed, now, sleep, time_left};
 pub use durations::{StdDurationExt, offset};
-pub use located::{Located, Underline};
+pub use located::{Located, Report, Underline};
 pub use times::{SystemTimeExt, next_run};

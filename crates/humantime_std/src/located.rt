@@ -2,17 +2,19 @@
 
 ghost use Rattle.std.specs.Prelude.{◌≡◌, ◌+◌, ◌-◌, ◌^◌, ◌<◌, ◌≤◌, chars, length, min, slice_range, suc, take, true, Err, IfErr, SomeIff};
 ghost use Rattle.std.specs.Char.{is_ascii_digit};
-ghost use Rattle.std.specs.List.{prefix_len};
+ghost use Rattle.std.specs.List.{before_first, prefix_len};
 ghost use Rattle.std.specs.Result.{result_err, result_map_both};
 ghost use Rattle.std.specs.Str.{IsCharBoundary};
 ghost use Rattle.humantime.specs.Prelude.{NumberOverflow, duration_answer, fault_of, strict_answer, weak_answer};
 ghost use Rattle.humantime.specs.Timestamps.{has_digits, has_two, number_between};
+ghost use Rattle.humantime_std.specs.Carets.{is_line_feed, line_after, line_before, line_number};
 ghost use Rattle.humantime_std.specs.Located as spec;
 ghost use Rattle.humantime_std.specs.Located.{BeginsSpans, Fit, IsFaultRange, IsRangeIn, OverflowsAt, body, end_at, start_at, strict_error, weak_error};
 
 mod carets;
 
-pub use carets::Underline;
+pub use carets::{Report, Underline};
+use carets::{first_line, last_line, line_feeds};
 use humantime::{
     Date, DurationError, StdDuration, SystemTime, TimestampError, Turns, day_number, spans,
 };
@@ -47,6 +49,8 @@ pub struct Located<E> {
 impl<E> Located<E> {
     /// Returns a caret line to print under the string: `^` under each column that is wrong, or one where something is missing.
     ///
+    /// A range that is not in `text` counts as empty, and a start that is not a `char` boundary of `text` as its end.
+    ///
     /// # Examples
     ///
     /// ```
@@ -58,12 +62,45 @@ impl<E> Located<E> {
     /// assert_eq!(rt; mark.as_str(), "     ^^^^^^^");
     /// ```
     pub fn underline<'a>(&self, text: &'a str) -> Underline<'a>
-        ensures before { IsRangeIn text.now self.now.start self.now.end → result.before.now ≡ take self.now.start text.now }
+        ensures before { IsCharBoundary text.now self.now.start → result.before.now ≡ take self.now.start text.now }
         ensures part { IsRangeIn text.now self.now.start self.now.end → result.part.now ≡ slice_range text.now self.now.start self.now.end }
+        ensures end { ¬ (IsCharBoundary text.now self.now.start) → result.before.now ≡ text.now }
     {
         let (before, _) = text.split_at_checked(self.start).unwrap_or((text, ""));
         let part = text.get(self.start..self.end).unwrap_or("");
         Underline { before, part }
+    }
+
+    /// Returns this error with the line of the string in which it is, and a caret line under it, to print.
+    ///
+    /// # Examples
+    ///
+    /// ```
+    /// use humantime_std::located::parse_rfc3339_weak;
+    ///
+    /// let text = "2018-02-30 00:28:07";
+    /// let error = parse_rfc3339_weak(text).expect_err(&rt, "no such day");
+    /// let report = error.report(text).to_string(rt.alloc())?;
+    /// let lines = "numeric component is out of range\n  2018-02-30 00:28:07\n          ^^";
+    /// assert_eq!(rt; report.as_str(), lines);
+    /// ```
+    pub fn report<'a>(self, text: &'a str) -> Report<'a, E>
+        ensures error { result.error ≡ self.error }
+        ensures number { IsRangeIn text.now self.start self.end → result.number ≡ line_number text.now self.start }
+        ensures before { IsRangeIn text.now self.start self.end → result.underline.before.now ≡ line_before text.now self.start }
+        ensures part { IsRangeIn text.now self.start self.end → result.underline.part.now ≡ before_first is_line_feed (slice_range text.now self.start self.end) }
+        ensures rest { IsRangeIn text.now self.start self.end → result.rest.now ≡ line_after text.now self.start }
+    {
+        let Underline { before, part } = self.underline(text);
+        Report {
+            error: self.error,
+            number: (line_feeds(text) > 0).then_some(line_feeds(before) + 1),
+            underline: Underline {
+                before: last_line(before),
+                part: first_line(part),
+            },
+            rest: first_line(text.get(self.start..).unwrap_or("")),
+        }
     }
 
     /// Returns this error for a string with `offset` more bytes before it: adds `offset` to both ends of the range. A sum above `usize::MAX`

@@ -1,12 +1,30 @@
 -- A caret line stands under its part.
-use Rattle.std.proofs.Common.{◌≡◌, ◌+◌, ◌<◌, ◌⊎◌, ℕ, false, List, [], ◌∷◌, ◌++◌, length, map, replicate, refl, ap, ◌∙◌, inl, inr, arith}
-use Rattle.std.specs.Prelude.{All, codes, slice_range, take}
-use Rattle.std.specs.List.{join_with_byte, slice_split}
+use Rattle.std.proofs.Common.{◌≡◌, ◌+◌, ◌<◌, ◌⊎◌, ℕ, zero, suc, true, false, List, [], ◌∷◌, ◌++◌, length, map, replicate, refl, ap, ◌∙◌, inl, inr, arith}
+use Rattle.std.specs.Prelude.{All, Option, slice_range}
+use Rattle.std.specs.List.{before_first, join_with_byte, list_all, slice_split}
+use Rattle.std.proofs.lemmas.List.{length-replicate}
 use Rattle.std.proofs.lemmas.List.Elements.{All-append, All-cons, All-nil, All-replicate}
 use Rattle.std.proofs.lemmas.List.Splits.{length-slice_split, slice_split_at, slice_split_none}
-use Rattle.humantime_std.specs.Carets.{blanks, caret_line, columns, is_tab}
-use Rattle.humantime_std.proofs.Carets.{columns_of_spaces}
+use Rattle.std.proofs.lemmas.Str.{chars-IsAscii}
+use Rattle.std.specs.Int.{is_in_range}
+use Rattle.std.specs.Str.{IsAscii}
+use Rattle.unicode_width.specs.Width.{str_width}
+use Rattle.unicode_width.proofs.Rules.{str_width-printable}
+use Rattle.humantime_std.specs.Carets.{blanks, caret_line, columns, is_line_feed, is_tab, line_after, line_before, line_number, report_text}
 use Rattle.humantime_uses.specs.CaretColumns.{ShowsRange, StandsUnder, column_of_pieces}
+
+ascii : (n : ℕ) → IsAscii (replicate n 32)
+ascii zero i = omega arith
+ascii (suc n) zero = omega arith
+ascii (suc n) (suc i) = ascii n i
+
+printable : (n : ℕ) → list_all (is_in_range 0x20 0x7E) (replicate n 32) ≡ true
+printable zero = refl
+printable (suc n) = printable n
+
+-- A space has one column.
+columns_of_spaces : (n : ℕ) → columns (replicate n 32) ≡ n
+columns_of_spaces n = ap (str_width false) (chars-IsAscii (replicate n 32) (ascii n)) ∙ str_width-printable false (replicate n 32) (printable n) ∙ length-replicate n 32
 
 abbrev spaces : List ℕ → List ℕ
 spaces piece = replicate (columns piece) 32
@@ -45,8 +63,12 @@ stands_under before part =
       begins = λ stop column. ap (column_of_pieces stop column) split ∙ same_column stop column pieces;
     }
 
--- A line of carets below a text shows a range, if the text is cut there.
-pub shows_range : (text before part lines : List ℕ) (start end : ℕ) → before ≡ take start text → part ≡ slice_range text start end
-    → lines ≡ text ++ (codes "\n" ++ caret_line before part) → ShowsRange text start end lines
-shows_range text before part lines start end front cut is =
-    record { carets = caret_line before part; under = rw (← front, ← cut) (stands_under before part); whole = is }
+-- A report shows a range, if its parts are those of the line of the range.
+pub shows_range : (text message lines before part rest : List ℕ) (number : Option ℕ) (start end : ℕ) → number ≡ line_number text start
+    → (before ≡ line_before text start) × (part ≡ before_first is_line_feed (slice_range text start end)) × (rest ≡ line_after text start)
+    → lines ≡ report_text number message before rest part → ShowsRange text message start end lines
+shows_range text message lines before part rest number start end numbered is whole = record {
+  carets = caret_line before part;
+  under = rw (← is.0, ← is.1) (stands_under before part);
+  whole = rw (← numbered, ← is.0, ← is.2) whole;
+}

@@ -1,8 +1,8 @@
 -- Where the carets under a line are, as one sees them in a terminal. A text is its list of bytes.
-use Rattle.std.specs.Prelude.{◌≡◌, ◌+◌, ◌++◌, ◌⊎◌, ℕ, List, [], ◌∷◌, All, codes, max, replicate, slice_range, take}
-use Rattle.std.specs.List.{slice_split}
+use Rattle.std.specs.Prelude.{◌≡◌, ◌+◌, ◌++◌, ◌⊎◌, ℕ, List, [], ◌∷◌, All, codes, decimal, max, option_map, replicate, slice_range, unwrap_or}
+use Rattle.std.specs.List.{before_first, slice_split}
 use Rattle.std.specs.Str.{byte}
-use Rattle.humantime_std.specs.Carets.{columns, is_tab}
+use Rattle.humantime_std.specs.Carets.{columns, is_line_feed, is_tab, line_after, line_before, line_number}
 
 -- Returns the column after pieces of a line with a tab between each two. The line begins in a column, and a tab leads from a column to that of
 -- the next tab stop.
@@ -23,8 +23,10 @@ pub record StandsUnder (before part carets : List ℕ) : Type 0 where
   pub blank : All (λ b. (b ≡ byte " ") ⊎ (b ≡ byte "\t")) blanks
   pub begins : (stop : ℕ → ℕ) (column : ℕ) → column_after stop column blanks ≡ column_after stop column before
 
--- The lines show the bytes of a text between two offsets: the text, and below it carets under these bytes.
-pub record ShowsRange (text : List ℕ) (start end : ℕ) (lines : List ℕ) : Type 0 where
+-- The lines show the bytes of a text between two offsets: a message, after the number of the line if the text has several, the line of the first
+-- offset, and below it carets under these bytes, as far as they are in this line. The line and the carets begin in the same column.
+pub record ShowsRange (text message : List ℕ) (start end : ℕ) (lines : List ℕ) : Type 0 where
   pub carets : List ℕ
-  pub under : StandsUnder (take start text) (slice_range text start end) carets
-  pub whole : lines ≡ text ++ (codes "\n" ++ carets)
+  pub under : StandsUnder (line_before text start) (before_first is_line_feed (slice_range text start end)) carets
+  pub whole : lines ≡ unwrap_or (option_map (λ n. codes "line " ++ (decimal n ++ codes ": ")) (line_number text start)) []
+      ++ (message ++ (codes "\n  " ++ (line_before text start ++ (line_after text start ++ (codes "\n  " ++ carets)))))

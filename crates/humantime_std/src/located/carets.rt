@@ -1,8 +1,9 @@
-//! A caret line to print under the part of a line that is wrong.
+//! The line in which an error is, and a caret line to print under it.
 
-ghost use Rattle.std.specs.Prelude.{◌<◌, Some, replicate};
+ghost use Rattle.std.specs.Prelude.{◌≡◌, ◌<◌, Some, count_by, option_map, replicate};
 ghost use Rattle.std.specs.Fmt.{WritesStyledOnOk};
-ghost use Rattle.humantime_std.specs.Carets.{blanks, caret_line};
+ghost use Rattle.std.specs.List.{after_last, before_first};
+ghost use Rattle.humantime_std.specs.Carets.{blanks, caret_line, is_line_feed, report_text};
 
 use std::fmt::{self, Display};
 use unicode_width::UnicodeWidthStr;
@@ -43,6 +44,48 @@ impl Display for Underline<'_> {
     }
 }
 
+/// An error with the line of the string that is wrong, and a caret line under it.
+///
+/// `Display` writes the message of the error, the line and the caret line, both after two spaces, without a line feed at the end. If the string
+/// has several lines, the message comes after the number of the line, as in `line 2: value was empty`.
+///
+/// # Examples
+///
+/// ```
+/// use humantime_std::located::parse_duration;
+///
+/// let text = "1h 30m\n5 moons";
+/// let error = parse_duration(text).expect_err(&rt, "no such unit");
+/// let report = error.report(text);
+/// assert_eq!(rt; (report.number, report.underline.before, report.rest), (Some(2), "5 ", "moons"));
+/// let lines = report.to_string(rt.alloc())?;
+/// assert!(rt; lines.starts_with("line 2: unknown time unit \"moons\", supported units: ns, us/µs"));
+/// assert!(rt; lines.ends_with("\n  5 moons\n    ^^^^^"));
+/// ```
+#[derive(Clone, Copy, Debug)]
+pub struct Report<'a, E> {
+    /// The error.
+    pub error: E,
+    /// The number of the line, from 1, or `None` if the string has only one line.
+    pub number: Option<usize>,
+    /// The line up to the error, and its part that is wrong.
+    pub underline: Underline<'a>,
+    /// The line from the error on.
+    pub rest: &'a str,
+}
+
+impl<E: Display> Display for Report<'_, E> {
+    ghost output = { λ r. option_map (λ message. report_text r.number message r.underline.before.now r.rest.now r.underline.part.now) (E.output r.error) };
+
+    fn fmt<W: fmt::Write>(&self, f: &mut fmt::Formatter<W>) -> fmt::Result {
+        if let Some(number) = self.number {
+            write!(f, "line {number}: ")?;
+        }
+        let (before, rest) = (self.underline.before, self.rest);
+        write!(f, "{}\n  {before}{rest}\n  {}", self.error, self.underline)
+    }
+}
+
 /// Writes what stands under the line up to a part: its tabs, and a space for each column between them.
 fn write_blanks<W: fmt::Write>(f: &mut fmt::Formatter<W>, before: &str) -> fmt::Result
     ensures { WritesStyledOnOk W.write_str_gives f.old result (blanks before.now) f.new }
@@ -65,4 +108,31 @@ fn fill<W: fmt::Write>(f: &mut fmt::Formatter<W>, c: char, columns: usize) -> fm
         f.write_char(c)?;
     }
     Ok(())
+}
+
+/// Returns the number of line feeds in a string.
+pub(crate) fn line_feeds(text: &str) -> usize
+    ensures { result ≡ count_by is_line_feed text.now }
+{
+    text.bytes().filter(|byte| *byte == b'\n').count()
+}
+
+/// Returns the string after the last line feed, or the whole string if it has none.
+pub(crate) fn last_line(text: &str) -> &str
+    ensures { result.now ≡ after_last is_line_feed text.now }
+{
+    match text.rsplit_once('\n') {
+        Some((_, line)) => line,
+        None => text,
+    }
+}
+
+/// Returns the string before the first line feed, or the whole string if it has none.
+pub(crate) fn first_line(text: &str) -> &str
+    ensures { result.now ≡ before_first is_line_feed text.now }
+{
+    match text.split_once('\n') {
+        Some((line, _)) => line,
+        None => text,
+    }
 }
