@@ -1,13 +1,16 @@
 -- What stands under a line up to a part, piece by piece.
-use Rattle.std.proofs.Common.{arith, ◌≡◌, ℕ, zero, suc, ◌<◌, true, false, List, [], ◌∷◌, ◌++◌, length, map, refl, sym, ap, subst, ◌∙◌, append_assoc, replicate}
+use Rattle.std.proofs.Common.{arith, ◌≡◌, ◌==◌, ℕ, ◌-◌, ◌<◌, ◌≤◌, true, not, List, [], ◌∷◌, ◌++◌, length, drop, get_or, map, refl, sym, ap, subst, append_assoc, replicate}
 use Rattle.std.proofs.Output.{has_written_styled_append, has_written_styled_of_eq}
+use Rattle.std.proofs.lemmas.List.{get_or-drop, length-drop}
 use Rattle.std.proofs.lemmas.List.Splits.{slice_split_first, slice_split_none, length-slice_split}
-use Rattle.std.proofs.lemmas.List.Sums.{fails_before_first}
+use Rattle.std.proofs.lemmas.List.Sums.{fails_before_first, suffix_len_is}
+use Rattle.std.proofs.lemmas.Str.Pattern.{NoCharPasses-char}
 use Rattle.std.specs.Fmt.{HasWritten, HasWrittenStyled, IsDefaultSpec, IsPlainFormatter}
 use Rattle.std.specs.declared.fmt.Formatter.{Formatter}
-use Rattle.std.specs.List.{position_or_len, before_first, after_first, join_with_byte, slice_split}
+use Rattle.std.specs.List.{position_or_len, before_first, after_last, after_first, join_with_byte, slice_split}
 use Rattle.std.specs.Prelude.{max}
-use Rattle.humantime_std.specs.Carets.{columns, blanks, caret_line, is_tab}
+use Rattle.std.specs.Str.{NoCharPasses}
+use Rattle.humantime_std.specs.Carets.{columns, blanks, caret_line, is_line_feed, is_tab}
 
 -- What is written whatever the options are, is written without options.
 pub written_plainly : {W : Type 0} (took : W → List ℕ → W → Type 0) (f : Formatter W) (bs : List ℕ) (g : Formatter W)
@@ -50,3 +53,17 @@ next_piece {took} {f} {g} {h} {i} {rest} {after} {before} {n} piece now filled t
 pub carets_written : {W : Type 0} {took : W → List ℕ → W → Type 0} {f g h : Formatter W} (before part : List ℕ) {n : ℕ} → HasWrittenStyled took f (blanks before) g
     → HasWrittenStyled took g (replicate n 94) h → n ≡ max (columns part) 1 → HasWrittenStyled took f (caret_line before part) h
 carets_written {took} {f} {g} {h} before part {n} blank carets is = rw is at (has_written_styled_append took f _ g _ h blank carets)
+
+-- What follows a line feed, and has none, is the last line.
+pub last_line_is : (text : List ℕ) (j : ℕ) → j ≤ length text → NoCharPasses (λ c. c == 10) (drop j text) → (0 < j → get_or text (j - 1) 0 ≡ 10)
+    → drop j text ≡ after_last is_line_feed text
+last_line_is text j within none feed =
+    let others : (k : ℕ) → j ≤ k → k < length text → not (get_or text k 0 == 10) ≡ true =
+    λ k from inside. grind (arith, get_or-drop j text (k - j) 0, NoCharPasses-char 10 (drop j text) (k - j) none (omega arith) (omega (arith, length-drop j text))) in
+    let last = suffix_len_is (λ b. not (is_line_feed b)) text j 0 within others (λ some. grind (arith, feed some)) in
+    ap (λ n. drop n text) (omega (arith, last, within))
+
+pub only_line_is : (text : List ℕ) → NoCharPasses (λ c. c == 10) text → text ≡ after_last is_line_feed text
+only_line_is text none = last_line_is text 0 (omega arith) none (λ none. absurd (omega arith))
+
+pub ruleset last_lines = (last_line_is, only_line_is)

@@ -2,13 +2,11 @@
 use Rattle.std.proofs.Common.{◌≡◌, ◌↔◌, ℕ, zero, suc, ◌+◌, ◌*◌, ◌<◌, ◌≤◌, ℤ, pos, ◌+ℤ◌, ◌≤ℤ◌, ◌<ℤ◌, Option, None, Some, IsNone, IfSome, SomeIff, arith, refl, subst, sym, rules}
 use Rattle.std.specs.Int.{div_ceil}
 use Rattle.std.proofs.lemmas.Bool.{cases_lt}
-use Rattle.std.proofs.lemmas.Grind.{common_steps, div_ceil_times}
+use Rattle.std.proofs.lemmas.Grind.{div_ceil_times}
 use Rattle.std.proofs.lemmas.Int.{ints}
 use Rattle.std.proofs.lemmas.Nat.{mul-le, row_fits}
 use Rattle.humantime.specs.Prelude.{moment_end}
 use Rattle.humantime_std.specs.Schedule.{IsDue, IsNextRun}
-
-pub ruleset waits = (common_steps, ints, div_ceil_times)
 
 -- The first run is the next one if there is no gap.
 first_run : (last now : ℤ) (every : ℕ) → now ≤ℤ last → IsNextRun last every now (last +ℤ pos every)

@@ -142,9 +142,10 @@ front_decides bs tail t k end utf8 other found cut trim =
 -- ---- The fault
 
 -- A text that overflows, and whose first `k` spans and no more are within the limits, overflows at the next span, or to its end if there is none.
-overflows_after : (bs : List ℕ) (k : ℕ) (end : Option ℕ) → IsUtf8 bs → duration_answer (chars bs) ≡ Err NumberOverflow → Fit (chars bs) k → ¬ (Fit (chars bs) (suc k))
-    → SomeIff end (BeginsSpans (suc k) (body (chars bs))) (end_at k (chars bs)) → OverflowsAt (chars bs) (start_at k (chars bs)) (unwrap_or end (length bs))
-overflows_after bs k (Some end) utf8 over fit beyond is =
+pub overflows_after : (bs : List ℕ) (k j : ℕ) (end : Option ℕ) → IsUtf8 bs → duration_answer (chars bs) ≡ Err NumberOverflow → Fit (chars bs) k → ¬ (Fit (chars bs) (suc k))
+    → SomeIff end (BeginsSpans (suc j) (body (chars bs))) (end_at j (chars bs)) → j ≡ k → OverflowsAt (chars bs) (start_at k (chars bs)) (unwrap_or end (length bs))
+overflows_after bs k j (Some end) utf8 over fit beyond found same =
+    let is = rw same at found in
     let h = fault_from_outcome _ _ over in
     let before = read_to (chars bs) _ (body (chars bs)) [] k (begun (chars bs)) fit.begins in
     let more = one_more (body (chars bs)) k in
@@ -154,7 +155,8 @@ overflows_after bs k (Some end) utf8 over fit beyond is =
       at_start = refl;
       at_end = rw (span.number.short) (is.1);
     }
-overflows_after bs k None utf8 over fit beyond none =
+overflows_after bs k j None utf8 over fit beyond found same =
+    let none = rw same at found in
     let h = fault_from_outcome _ _ over in
     let before = read_to (chars bs) _ (body (chars bs)) [] k (begun (chars bs)) fit.begins in
     let rest = drop_spans k (body (chars bs)) in
@@ -170,10 +172,6 @@ overflows_after bs k None utf8 over fit beyond none =
       at_start = refl;
       at_end = rw long (sym (ap length (encodes-chars bs utf8)));
     }
-
-pub overflows_at : (bs : List ℕ) (k j : ℕ) (end : Option ℕ) → IsUtf8 bs → duration_answer (chars bs) ≡ Err NumberOverflow → Fit (chars bs) k → ¬ (Fit (chars bs) (suc k))
-    → SomeIff end (BeginsSpans (suc j) (body (chars bs))) (end_at j (chars bs)) → j ≡ k → OverflowsAt (chars bs) (start_at k (chars bs)) (unwrap_or end (length bs))
-overflows_at bs k j end utf8 over fit beyond found same = overflows_after bs k end utf8 over fit beyond (rw same at found)
 
 -- A text overflows at characters.
 pub overflow_inside : (bs : List ℕ) (start end : ℕ) → IsUtf8 bs → OverflowsAt (chars bs) start end → IsRangeIn bs start end

@@ -1,6 +1,6 @@
 -- The carets under a part of a line, and the line of an offset. A text is its list of bytes.
-use Rattle.std.specs.Prelude.{◌==◌, ◌+◌, ◌++◌, ℕ, List, [], Bool, false, Option, None, Some, chars, codes, count_by, decimal, drop, if◌then◌else◌, map, max, nat_lt, option_map, replicate, take, unwrap_or}
-use Rattle.std.specs.List.{after_last, before_first, join_with_byte, slice_split}
+use Rattle.std.specs.Prelude.{◌==◌, ◌+◌, ◌++◌, ℕ, List, [], Bool, false, Option, None, Some, chars, codes, count_by, decimal, if◌then◌else◌, map, max, nat_lt, option_map, replicate, take, unwrap_or}
+use Rattle.std.specs.List.{join_with_byte, slice_split}
 use Rattle.std.specs.Str.{byte}
 use Rattle.unicode_width.specs.Width.{str_width}
 
@@ -20,8 +20,6 @@ blanks before = join_with_byte (byte "\t") (map (λ piece. replicate (columns pi
 abbrev pub caret_line : List ℕ → List ℕ → List ℕ
 caret_line before part = blanks before ++ replicate (max (columns part) 1) (byte "^")
 
--- ---- The line of an offset
-
 -- Tests whether a byte ends a line.
 abbrev pub is_line_feed : ℕ → Bool
 is_line_feed b = b == byte "\n"
@@ -29,14 +27,6 @@ is_line_feed b = b == byte "\n"
 -- Returns the number of the line of an offset, from 1, or `None` if the text has only one line.
 abbrev pub line_number : List ℕ → ℕ → Option ℕ
 line_number text at = if nat_lt 0 (count_by is_line_feed text) then Some (count_by is_line_feed (take at text) + 1) else None
-
--- Returns what this line has before the offset.
-abbrev pub line_before : List ℕ → ℕ → List ℕ
-line_before text at = after_last is_line_feed (take at text)
-
--- Returns what this line has from the offset on.
-abbrev pub line_after : List ℕ → ℕ → List ℕ
-line_after text at = before_first is_line_feed (drop at text)
 
 -- Returns the text of a report: the number of the line, if it has one, the message, the line, and the caret line of the part after `before`.
 abbrev pub report_text : Option ℕ → List ℕ → List ℕ → List ℕ → List ℕ → List ℕ

@@ -1,6 +1,6 @@
 //! Methods of std's `Duration` for [`StdDuration`], conversions from and to it, and the offset of a duration's error.
 
-ghost use Rattle.std.specs.Prelude.{◌≡◌, ◌≢◌, ◌-◌, ◌*◌, ◌/◌, ◌<◌, ◌≤◌, ◌↔◌, IsTrue, SomeIff};
+ghost use Rattle.std.specs.Prelude.{◌≡◌, ◌≢◌, ◌-◌, ◌*◌, ◌/◌, ◌<◌, ◌≤◌, ◌↔◌, ℕ, min, option_map, IsTrue, SomeIff};
 ghost use Rattle.std.specs.Duration.{as_nanos};
 ghost use Rattle.humantime.specs.Prelude.{duration_end, fault_of, place_of};
 
@@ -22,6 +22,9 @@ const NANOS_PER_SECOND: u128 = 1_000_000_000;
 /// assert_eq!(rt; left.as_millis(), 10_000);
 /// ```
 pub trait StdDurationExt: Sized {
+    // The number of nanoseconds of a duration.
+    ghost total_nanos: { Self → ℕ };
+
     /// Converts a duration of std.
     ///
     /// # Examples
@@ -34,7 +37,8 @@ pub trait StdDurationExt: Sized {
     /// let duration = StdDuration::from_std(Duration::from_millis(9_420_500));
     /// assert_eq!(rt; duration, StdDuration::new(9420, 500_000_000));
     /// ```
-    fn from_std(duration: time::Duration) -> Self;
+    fn from_std(duration: time::Duration) -> Self
+        ensures { total_nanos result ≡ as_nanos duration };
 
     /// Converts this duration to one of std.
     ///
@@ -48,7 +52,8 @@ pub trait StdDurationExt: Sized {
     /// let timeout = parse_duration("2h 37min 500ms")?.to_std();
     /// assert_eq!(rt; timeout, Duration::from_millis(9_420_500));
     /// ```
-    fn to_std(self) -> time::Duration;
+    fn to_std(self) -> time::Duration
+        ensures { as_nanos result ≡ total_nanos self };
 
     /// Creates a duration of a number of nanoseconds, or returns `None` if it is longer than `MAX`.
     ///
@@ -61,9 +66,12 @@ pub trait StdDurationExt: Sized {
     /// assert_eq!(rt; StdDuration::checked_from_nanos_u128(90_000_000_005), Some(StdDuration::new(90, 5)));
     /// assert_eq!(rt; StdDuration::checked_from_nanos_u128(18_446_744_073_709_551_616_000_000_000), None);
     /// ```
-    fn checked_from_nanos_u128(nanos: u128) -> Option<Self>;
+    fn checked_from_nanos_u128(nanos: u128) -> Option<Self>
+        ensures { SomeIff (option_map total_nanos result) (nanos < duration_end) nanos };
 
     /// Returns this duration in nanoseconds.
+    ///
+    /// A share in percent is `(part.as_nanos() * 100).checked_div(whole.as_nanos())`, where no product overflows.
     ///
     /// # Examples
     ///
@@ -72,8 +80,11 @@ pub trait StdDurationExt: Sized {
     /// use humantime_std::StdDurationExt;
     ///
     /// assert_eq!(rt; StdDuration::MAX.as_nanos(), 18_446_744_073_709_551_615_999_999_999);
+    /// let (part, whole) = (StdDuration::from_secs(25), StdDuration::from_secs(60));
+    /// assert_eq!(rt; (part.as_nanos() * 100).checked_div(whole.as_nanos()), Some(41));
     /// ```
-    fn as_nanos(self) -> u128;
+    fn as_nanos(self) -> u128
+        ensures { result ≡ total_nanos self };
 
     /// Returns the whole milliseconds of this duration.
     ///
@@ -85,7 +96,8 @@ pub trait StdDurationExt: Sized {
     ///
     /// assert_eq!(rt; parse_duration("1s 2ms 999us")?.as_millis(), 1002);
     /// ```
-    fn as_millis(self) -> u128;
+    fn as_millis(self) -> u128
+        ensures { result ≡ total_nanos self / 1_000_000 };
 
     /// Returns `true` if this duration is zero.
     ///
@@ -98,7 +110,8 @@ pub trait StdDurationExt: Sized {
     /// assert!(rt; StdDuration::ZERO.is_zero());
     /// assert!(rt; !StdDuration::new(0, 1).is_zero());
     /// ```
-    fn is_zero(self) -> bool;
+    fn is_zero(self) -> bool
+        ensures { IsTrue result ↔ (total_nanos self ≡ 0) };
 
     /// Subtracts another duration, or returns `None` if the difference is negative.
     ///
@@ -112,7 +125,8 @@ pub trait StdDurationExt: Sized {
     /// assert_eq!(rt; long.checked_sub(StdDuration::new(60, 1)), Some(StdDuration::new(29, 999_999_999)));
     /// assert_eq!(rt; StdDuration::ZERO.checked_sub(long), None);
     /// ```
-    fn checked_sub(self, other: Self) -> Option<Self>;
+    fn checked_sub(self, other: Self) -> Option<Self>
+        ensures { SomeIff (option_map total_nanos result) (total_nanos other ≤ total_nanos self) (total_nanos self - total_nanos other) };
 
     /// Subtracts another duration, or returns zero if the difference is negative.
     ///
@@ -124,7 +138,8 @@ pub trait StdDurationExt: Sized {
     ///
     /// assert_eq!(rt; StdDuration::from_secs(60).saturating_sub(StdDuration::from_secs(90)), StdDuration::ZERO);
     /// ```
-    fn saturating_sub(self, other: Self) -> Self;
+    fn saturating_sub(self, other: Self) -> Self
+        ensures { total_nanos result ≡ total_nanos self - total_nanos other };
 
     /// Multiplies this duration by a number, or returns `None` if the product is longer than `MAX`.
     ///
@@ -137,7 +152,8 @@ pub trait StdDurationExt: Sized {
     /// assert_eq!(rt; parse_duration("1m 30s")?.checked_mul(3), Some(parse_duration("4m 30s")?));
     /// assert_eq!(rt; StdDuration::MAX.checked_mul(2), None);
     /// ```
-    fn checked_mul(self, factor: u64) -> Option<Self>;
+    fn checked_mul(self, factor: u64) -> Option<Self>
+        ensures { SomeIff (option_map total_nanos result) (total_nanos self * factor < duration_end) (total_nanos self * factor) };
 
     /// Divides this duration by a number and truncates to nanoseconds, or returns `None` if the number is zero.
     ///
@@ -151,11 +167,10 @@ pub trait StdDurationExt: Sized {
     /// assert_eq!(rt; total.checked_div(3), Some(parse_duration("3.333333333s")?));
     /// assert_eq!(rt; total.checked_div(0), None);
     /// ```
-    fn checked_div(self, divisor: u64) -> Option<Self>;
+    fn checked_div(self, divisor: u64) -> Option<Self>
+        ensures { SomeIff (option_map total_nanos result) (divisor ≢ 0) (total_nanos self / divisor) };
 
-    /// Returns how many times another duration fits into this one, or `None` if it is zero.
-    ///
-    /// A share in percent is `(part.as_nanos() * 100).checked_div(whole.as_nanos())`, where no product overflows.
+    /// Truncates this duration to a multiple of a step, or returns `None` if the step is zero.
     ///
     /// # Examples
     ///
@@ -163,15 +178,17 @@ pub trait StdDurationExt: Sized {
     /// use humantime::{StdDuration, parse_duration};
     /// use humantime_std::StdDurationExt;
     ///
-    /// let (part, whole) = (parse_duration("25min")?, parse_duration("1h")?);
-    /// assert_eq!(rt; whole.checked_div_duration(part), Some(2));
-    /// assert_eq!(rt; (part.as_nanos() * 100).checked_div(whole.as_nanos()), Some(41));
-    /// assert_eq!(rt; whole.checked_div_duration(StdDuration::ZERO), None);
+    /// let mean = parse_duration("1m 2s 333ms")?;
+    /// assert_eq!(rt; mean.checked_trunc_to(parse_duration("1s")?), Some(parse_duration("1m 2s")?));
+    /// assert_eq!(rt; mean.checked_trunc_to(StdDuration::ZERO), None);
     /// ```
-    fn checked_div_duration(self, other: Self) -> Option<u128>;
+    fn checked_trunc_to(self, step: Self) -> Option<Self>
+        ensures { SomeIff (option_map total_nanos result) (total_nanos step ≢ 0) (total_nanos self / total_nanos step * total_nanos step) };
 }
 
 impl StdDurationExt for StdDuration {
+    ghost total_nanos = { λ d. d };
+
     fn from_std(duration: time::Duration) -> StdDuration
         ensures nanos { result ≡ as_nanos duration }
         ensures within { result < duration_end }
@@ -236,10 +253,31 @@ impl StdDurationExt for StdDuration {
         StdDuration::checked_from_nanos_u128(self.as_nanos().checked_div(divisor as u128)?)
     }
 
-    fn checked_div_duration(self, other: StdDuration) -> Option<u128>
-        ensures { SomeIff result (other ≢ 0) (self / other) }
+    fn checked_trunc_to(self, step: StdDuration) -> Option<StdDuration>
+        ensures { SomeIff result (step ≢ 0) (self / step * step) }
     {
-        self.as_nanos().checked_div(other.as_nanos())
+        let steps = self.as_nanos().checked_div(step.as_nanos())?;
+        StdDuration::checked_from_nanos_u128(steps * step.as_nanos())
+    }
+}
+
+/// Returns the delay before one more try: `factor` times as long as the delay before the last one, but not longer than `most`.
+///
+/// # Examples
+///
+/// ```
+/// use humantime::StdDuration;
+/// use humantime_std::next_delay;
+///
+/// let [first, second, most] = [60, 120, 150].map(|secs| StdDuration::from_secs(secs));
+/// assert_eq!(rt; (next_delay(first, 2, most), next_delay(second, 2, most)), (second, most));
+/// ```
+pub fn next_delay(delay: StdDuration, factor: u64, most: StdDuration) -> StdDuration
+    ensures { result ≡ min (delay * factor) most }
+{
+    match delay.checked_mul(factor) {
+        Some(longer) => longer.min(most),
+        None => most,
     }
 }
 
@@ -254,8 +292,6 @@ impl StdDurationExt for StdDuration {
 /// use humantime::{DurationError, parse_duration};
 /// use humantime_std::offset;
 ///
-/// // 2h 37mi
-/// //      ^
 /// let error = parse_duration("2h 37mi").expect_err(&rt, "no such unit");
 /// assert_eq!(rt; offset(&error), Some(5));
 /// assert_eq!(rt; offset(&DurationError::NumberOverflow), None);

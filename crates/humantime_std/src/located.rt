@@ -1,13 +1,13 @@
 //! The parsers of `humantime`, with errors that contain the range of the bytes that are wrong.
 
-ghost use Rattle.std.specs.Prelude.{◌≡◌, ◌+◌, ◌-◌, ◌^◌, ◌<◌, ◌≤◌, chars, length, min, slice_range, suc, take, true, Err, IfErr, SomeIff};
+ghost use Rattle.std.specs.Prelude.{◌≡◌, ◌+◌, ◌-◌, ◌^◌, ◌<◌, ◌≤◌, chars, drop, length, min, slice_range, suc, take, true, Err, IfErr, SomeIff};
 ghost use Rattle.std.specs.Char.{is_ascii_digit};
-ghost use Rattle.std.specs.List.{before_first, prefix_len};
+ghost use Rattle.std.specs.List.{after_last, before_first, prefix_len};
 ghost use Rattle.std.specs.Result.{result_err, result_map_both};
 ghost use Rattle.std.specs.Str.{IsCharBoundary};
 ghost use Rattle.humantime.specs.Prelude.{NumberOverflow, duration_answer, fault_of, strict_answer, weak_answer};
 ghost use Rattle.humantime.specs.Timestamps.{has_digits, has_two, number_between};
-ghost use Rattle.humantime_std.specs.Carets.{is_line_feed, line_after, line_before, line_number};
+ghost use Rattle.humantime_std.specs.Carets.{is_line_feed, line_number};
 ghost use Rattle.humantime_std.specs.Located as spec;
 ghost use Rattle.humantime_std.specs.Located.{BeginsSpans, Fit, IsFaultRange, IsRangeIn, OverflowsAt, body, end_at, start_at, strict_error, weak_error};
 
@@ -31,8 +31,6 @@ use std::fmt::{self, Display};
 /// use humantime::TimestampError;
 /// use humantime_std::located::{Located, parse_rfc3339_weak};
 ///
-/// // 2018-02-14 24:00:00
-/// //            ^^
 /// let error = Located { error: TimestampError::OutOfRange, start: 11, end: 13 };
 /// assert_eq!(rt; parse_rfc3339_weak("2018-02-14 24:00:00"), Err(error));
 /// ```
@@ -87,9 +85,9 @@ impl<E> Located<E> {
     pub fn report<'a>(self, text: &'a str) -> Report<'a, E>
         ensures error { result.error ≡ self.error }
         ensures number { IsRangeIn text.now self.start self.end → result.number ≡ line_number text.now self.start }
-        ensures before { IsRangeIn text.now self.start self.end → result.underline.before.now ≡ line_before text.now self.start }
+        ensures before { IsRangeIn text.now self.start self.end → result.underline.before.now ≡ after_last is_line_feed (take self.start text.now) }
         ensures part { IsRangeIn text.now self.start self.end → result.underline.part.now ≡ before_first is_line_feed (slice_range text.now self.start self.end) }
-        ensures rest { IsRangeIn text.now self.start self.end → result.rest.now ≡ line_after text.now self.start }
+        ensures rest { IsRangeIn text.now self.start self.end → result.rest.now ≡ before_first is_line_feed (drop self.start text.now) }
     {
         let Underline { before, part } = self.underline(text);
         Report {
@@ -330,7 +328,7 @@ fn fit_len(text: &str, strict: bool) -> usize
 }
 
 /// Returns the bytes of the first number that is out of its bounds.
-#[tactic(auto, using(crate::proofs::Inside::fields), unfolding(crate::proofs::Inside::fields_open))]
+#[tactic(auto, using(crate::proofs::Inside::fields), unfolding(crate::specs::Located::wrong_field, humantime::specs::Timestamps::has_digits))]
 fn wrong_field(bytes: &[u8]) -> (usize, usize)
     requires long { 19 ≤ length bytes.now }
     requires digits { has_digits bytes.now ≡ true }

@@ -1,6 +1,6 @@
 //! Times of std, a time minus a duration, and the next run of a job.
 
-ghost use Rattle.std.specs.Prelude.{◌≡◌, ◌+◌, ◌*◌, ◌<◌, ◌↔◌, ◌+ℤ◌, ◌-ℤ◌, ◌≤ℤ◌, ◌<ℤ◌, ℤ, Some, pos, neg_ℤ, IfSome, IsNone, IsSome, SomeIff};
+ghost use Rattle.std.specs.Prelude.{◌≡◌, ◌+◌, ◌*◌, ◌<◌, ◌↔◌, ◌+ℤ◌, ◌-ℤ◌, ◌≤ℤ◌, ◌<ℤ◌, ℤ, Some, pos, neg_ℤ, option_map, IfSome, IsNone, IsSome, SomeIff};
 ghost use Rattle.std.specs.Int.{div_ceil};
 ghost use Rattle.std.specs.Time.{FitsClock, system_time_nanos};
 ghost use Rattle.humantime.specs.Prelude.{moment_end};
@@ -25,6 +25,9 @@ const NANOS_PER_SECOND: u32 = 1_000_000_000;
 /// assert_eq!(rt; time.checked_sub(parse_duration("1h")?), Some(hour_before));
 /// ```
 pub trait SystemTimeExt: Sized {
+    // The number of nanoseconds from 1970 to a time.
+    ghost moment: { Self → ℤ };
+
     /// Converts a time of std, or returns `None` if it is 2^63 seconds or more after 1970. No clock of std returns such a time.
     ///
     /// # Examples
@@ -37,7 +40,8 @@ pub trait SystemTimeExt: Sized {
     /// let time = UNIX_EPOCH + Duration::new(1_518_568_087, 5);
     /// assert_eq!(rt; SystemTime::from_std(time), SystemTime::from_parts(1_518_568_087, 5));
     /// ```
-    fn from_std(time: time::SystemTime) -> Option<Self>;
+    fn from_std(time: time::SystemTime) -> Option<Self>
+        ensures { SomeIff (option_map moment result) (FitsClock (system_time_nanos time)) (pos (system_time_nanos time)) };
 
     /// Converts this time to one of std, or returns `None` if it is before 1970, where std's `SystemTime` begins in Rattle.
     ///
@@ -53,7 +57,8 @@ pub trait SystemTimeExt: Sized {
     /// let before = SystemTime::from_parts(-1, 999_999_999).ok_or("too many nanoseconds")?;
     /// assert_eq!(rt; before.to_std(), None);
     /// ```
-    fn to_std(self) -> Option<time::SystemTime>;
+    fn to_std(self) -> Option<time::SystemTime>
+        ensures { SomeIff (option_map (λ t. pos (system_time_nanos t)) result) (pos 0 ≤ℤ moment self) (moment self) };
 
     /// Subtracts a duration, or returns `None` if the difference is more than 2^63 seconds before 1970.
     ///
@@ -66,10 +71,13 @@ pub trait SystemTimeExt: Sized {
     /// let first = SystemTime::from_parts(i64::MIN, 0).ok_or("too many nanoseconds")?;
     /// assert_eq!(rt; first.checked_sub(StdDuration::new(0, 1)), None);
     /// ```
-    fn checked_sub(self, duration: StdDuration) -> Option<Self>;
+    fn checked_sub(self, duration: StdDuration) -> Option<Self>
+        ensures { let t = moment self -ℤ pos duration in SomeIff (option_map moment result) (neg_ℤ moment_end ≤ℤ t) t };
 }
 
 impl SystemTimeExt for SystemTime {
+    ghost moment = { λ t. t };
+
     fn from_std(time: time::SystemTime) -> Option<SystemTime>
         ensures { SomeIff result (FitsClock (system_time_nanos time)) (pos (system_time_nanos time)) }
     {
@@ -129,7 +137,7 @@ pub fn next_run(last: SystemTime, every: StdDuration, now: SystemTime) -> Option
 }
 
 /// Returns the first of the times `last + every`, `last + 2 * every` and so on that is not before `last + gap`, if it is a `SystemTime`.
-#[tactic(auto, using(crate::proofs::NextRuns::waits))]
+#[tactic(auto, using(std::proofs::lemmas::Grind::div_ceil_times, std::proofs::lemmas::Int::ints))]
 fn run_after(last: SystemTime, gap: StdDuration, every: StdDuration) -> Option<SystemTime>
     ensures first { let t = last +ℤ pos every in gap ≡ 0 → SomeIff result (t <ℤ moment_end) t }
     ensures never { 0 < gap → every ≡ 0 → IsNone result }

@@ -1,5 +1,5 @@
 -- A caret line stands under its part.
-use Rattle.std.proofs.Common.{◌≡◌, ◌+◌, ◌<◌, ◌⊎◌, ℕ, zero, suc, true, false, List, [], ◌∷◌, ◌++◌, length, map, replicate, refl, ap, ◌∙◌, inl, inr, arith}
+use Rattle.std.proofs.Common.{◌≡◌, ◌+◌, ◌<◌, ◌⊎◌, ℕ, zero, suc, true, false, List, [], ◌∷◌, length, map, replicate, refl, ap, ◌∙◌, inl, inr, arith}
 use Rattle.std.specs.Prelude.{All, Option, slice_range}
 use Rattle.std.specs.List.{before_first, join_with_byte, list_all, slice_split}
 use Rattle.std.proofs.lemmas.List.{length-replicate}
@@ -10,8 +10,8 @@ use Rattle.std.specs.Int.{is_in_range}
 use Rattle.std.specs.Str.{IsAscii}
 use Rattle.unicode_width.specs.Width.{str_width}
 use Rattle.unicode_width.proofs.Rules.{str_width-printable}
-use Rattle.humantime_std.specs.Carets.{blanks, caret_line, columns, is_line_feed, is_tab, line_after, line_before, line_number, report_text}
-use Rattle.humantime_uses.specs.CaretColumns.{ShowsRange, StandsUnder, column_of_pieces}
+use Rattle.humantime_std.specs.Carets.{blanks, caret_line, columns, is_line_feed, is_tab, line_number, report_text}
+use Rattle.humantime_uses.specs.CaretColumns.{ShowsRange, StandsUnder, column_of_pieces, line_after, line_before}
 
 ascii : (n : ℕ) → IsAscii (replicate n 32)
 ascii zero i = omega arith

@@ -1,8 +1,8 @@
 -- Where the carets under a line are, as one sees them in a terminal. A text is its list of bytes.
-use Rattle.std.specs.Prelude.{◌≡◌, ◌+◌, ◌++◌, ◌⊎◌, ℕ, List, [], ◌∷◌, All, codes, decimal, max, option_map, replicate, slice_range, unwrap_or}
-use Rattle.std.specs.List.{before_first, slice_split}
+use Rattle.std.specs.Prelude.{◌≡◌, ◌+◌, ◌++◌, ◌⊎◌, ℕ, List, [], ◌∷◌, All, codes, decimal, drop, max, option_map, replicate, slice_range, take, unwrap_or}
+use Rattle.std.specs.List.{after_last, before_first, slice_split}
 use Rattle.std.specs.Str.{byte}
-use Rattle.humantime_std.specs.Carets.{columns, is_line_feed, is_tab, line_after, line_before, line_number}
+use Rattle.humantime_std.specs.Carets.{columns, is_line_feed, is_tab, line_number}
 
 -- Returns the column after pieces of a line with a tab between each two. The line begins in a column, and a tab leads from a column to that of
 -- the next tab stop.
@@ -22,6 +22,14 @@ pub record StandsUnder (before part carets : List ℕ) : Type 0 where
   pub whole : carets ≡ blanks ++ replicate (max (columns part) 1) (byte "^")
   pub blank : All (λ b. (b ≡ byte " ") ⊎ (b ≡ byte "\t")) blanks
   pub begins : (stop : ℕ → ℕ) (column : ℕ) → column_after stop column blanks ≡ column_after stop column before
+
+-- Returns what the line of an offset has before the offset.
+abbrev pub line_before : List ℕ → ℕ → List ℕ
+line_before text at = after_last is_line_feed (take at text)
+
+-- Returns what it has from the offset on.
+abbrev pub line_after : List ℕ → ℕ → List ℕ
+line_after text at = before_first is_line_feed (drop at text)
 
 -- The lines show the bytes of a text between two offsets: a message, after the number of the line if the text has several, the line of the first
 -- offset, and below it carets under these bytes, as far as they are in this line. The line and the carets begin in the same column.

@@ -14,6 +14,7 @@ pub mod durations;
 pub mod laws;
 pub mod spans;
 pub mod std_limits;
+pub mod std_traits;
 pub mod timestamps;
 pub mod values;
 pub mod witnesses;

@@ -1,6 +1,6 @@
 //! Callers of `humantime_std`, whose results are known up to the limits of the types.
 
-ghost use Rattle.std.specs.Prelude.{◌≡◌, ◌≢◌, ◌+◌, ◌*◌, ◌/◌, ◌≤◌, ◌⊎◌, ◌↔◌, ◌+ℤ◌, ◌≤ℤ◌, ℕ, ℤ, List, chars, min, pos, slice_range, option_map, Err, IfSome, IsNone, IsOk, IsTrue, None, Some, SomeIff};
+ghost use Rattle.std.specs.Prelude.{◌≡◌, ◌≢◌, ◌+◌, ◌*◌, ◌/◌, ◌%◌, ◌<◌, ◌≤◌, ◌⊎◌, ◌↔◌, ◌+ℤ◌, ◌≤ℤ◌, ℕ, ℤ, List, chars, pos, slice_range, option_map, Err, IfSome, IsNone, IsOk, IsTrue, None, Some, SomeIff};
 ghost use Rattle.std.specs.Time.{FitsClock, instant_nanos};
 ghost use Rattle.humantime.specs.Prelude.{Fault, InvalidCharacter, NumberExpected, UnknownUnit, NumberOverflow, Empty, duration_answer, fault_of, moment_end};
 ghost use Rattle.humantime_std.specs.Located.{IsFaultRange, IsRangeIn, weak_error};
@@ -8,7 +8,9 @@ ghost use Rattle.humantime_std.specs.Schedule.{IsDue, IsNextRun};
 
 use humantime::{DurationError, StdDuration, SystemTime};
 use humantime_std::located::{self, parse_rfc3339_weak};
-use humantime_std::{StdDurationExt, SystemTimeExt, deadline, next_run, offset, time_left};
+use humantime_std::{
+    StdDurationExt, SystemTimeExt, deadline, next_delay, next_run, offset, time_left,
+};
 use std::time::Instant;
 
 /// Returns `true` if a duration minus another is `rest`: if the other plus `rest` is the duration.
@@ -59,12 +61,24 @@ pub fn wait_for(last: SystemTime, every: StdDuration, now: SystemTime) -> Option
     next_run(last, every, now)?.duration_since(now).ok()
 }
 
-/// Returns the delay before the next try: `factor` times as long as the one before, but not longer than `most`.
-pub fn next_delay(delay: StdDuration, factor: u32, most: StdDuration) -> StdDuration
-    ensures { result ≡ min (delay * factor) most }
+/// Returns the delay before one more try, twice as long as the one before it, but not longer than `most`.
+pub fn doubled(delay: StdDuration, most: StdDuration) -> StdDuration
+    ensures most { result ≤ most }
+    ensures longer { delay ≤ most → delay ≤ result }
+    ensures twice { delay + delay ≤ most → result ≡ delay + delay }
 {
-    let longer = delay.to_std().saturating_mul(factor);
-    StdDuration::from_std(longer.min(most.to_std()))
+    next_delay(delay, 2, most)
+}
+
+/// Returns a duration without what is below a step, and that remainder, or `None` if the step is zero.
+pub fn split_at_step(duration: StdDuration, step: StdDuration) -> Option<(StdDuration, StdDuration)>
+    ensures none { IsNone result ↔ (step ≡ 0) }
+    ensures sum { IfSome result (λ parts. duration ≡ parts.0 + parts.1) }
+    ensures multiple { IfSome result (λ parts. parts.0 % step ≡ 0) }
+    ensures below { IfSome result (λ parts. parts.1 < step) }
+{
+    let whole = duration.checked_trunc_to(step)?;
+    Some((whole, duration.saturating_sub(whole)))
 }
 
 /// Returns how many percent of a whole a part is, rounded down, or `None` if the whole is zero.

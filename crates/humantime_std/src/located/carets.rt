@@ -44,23 +44,20 @@ impl Display for Underline<'_> {
     }
 }
 
-/// An error with the line of the string that is wrong, and a caret line under it.
+/// An error with the line of the string in which it is, as [`report`](super::Located::report) returns it.
 ///
-/// `Display` writes the message of the error, the line and the caret line, both after two spaces, without a line feed at the end. If the string
-/// has several lines, the message comes after the number of the line, as in `line 2: value was empty`.
+/// `Display` writes the message, the line, and a caret line under it, both after two spaces. There is no line feed at the end. If the string has
+/// several lines, the message follows the number of the line, as in `line 2: value was empty`. Control characters are written as they are.
 ///
 /// # Examples
 ///
 /// ```
 /// use humantime_std::located::parse_duration;
 ///
-/// let text = "1h 30m\n5 moons";
-/// let error = parse_duration(text).expect_err(&rt, "no such unit");
-/// let report = error.report(text);
+/// let text = "1h\n5 moons";
+/// let report = parse_duration(text).expect_err(&rt, "no such unit").report(text);
 /// assert_eq!(rt; (report.number, report.underline.before, report.rest), (Some(2), "5 ", "moons"));
-/// let lines = report.to_string(rt.alloc())?;
-/// assert!(rt; lines.starts_with("line 2: unknown time unit \"moons\", supported units: ns, us/µs"));
-/// assert!(rt; lines.ends_with("\n  5 moons\n    ^^^^^"));
+/// assert!(rt; report.to_string(rt.alloc())?.ends_with("\n  5 moons\n    ^^^^^"));
 /// ```
 #[derive(Clone, Copy, Debug)]
 pub struct Report<'a, E> {
@@ -118,21 +115,16 @@ pub(crate) fn line_feeds(text: &str) -> usize
 }
 
 /// Returns the string after the last line feed, or the whole string if it has none.
+#[tactic(auto, using(crate::proofs::Carets::last_lines))]
 pub(crate) fn last_line(text: &str) -> &str
     ensures { result.now ≡ after_last is_line_feed text.now }
 {
-    match text.rsplit_once('\n') {
-        Some((_, line)) => line,
-        None => text,
-    }
+    text.rsplit_once('\n').map_or(text, |(_, line)| line)
 }
 
 /// Returns the string before the first line feed, or the whole string if it has none.
 pub(crate) fn first_line(text: &str) -> &str
     ensures { result.now ≡ before_first is_line_feed text.now }
 {
-    match text.split_once('\n') {
-        Some((line, _)) => line,
-        None => text,
-    }
+    text.split_once('\n').map_or(text, |(line, _)| line)
 }
