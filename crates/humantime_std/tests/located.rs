@@ -1,14 +1,12 @@
 //! Where texts are wrong: what the rules of the places mean for whole texts, and that a long text has its place.
 
-use humantime::{DurationError, TimestampError};
-use humantime_std::Located;
+use humantime::{DurationError, StdDuration, TimestampError};
+use humantime_std::{Located, StdDurationExt};
 use humantime_std::located::{parse_duration, parse_rfc3339, parse_rfc3339_weak};
 use std::test::Fail;
 
 type Place = Option<(TimestampError, usize, usize)>;
 
-const OUT_OF_RANGE: TimestampError = TimestampError::OutOfRange;
-const DIGIT: TimestampError = TimestampError::InvalidDigit;
 const FORMAT: TimestampError = TimestampError::InvalidFormat;
 
 fn place(error: Option<Located<TimestampError>>) -> Place {
@@ -16,57 +14,65 @@ fn place(error: Option<Located<TimestampError>>) -> Place {
 }
 
 /// Texts with their places in the weak form and in the strict one.
-const TIMESTAMPS: &[(&str, Place, Place)] = &[
-    ("", Some((FORMAT, 0, 0)), Some((FORMAT, 0, 0))),
-    ("2", Some((FORMAT, 1, 1)), Some((FORMAT, 1, 1))),
-    ("é", Some((FORMAT, 0, 2)), Some((FORMAT, 0, 2))),
-    ("2018-02-14", Some((FORMAT, 10, 10)), Some((FORMAT, 10, 10))),
-    ("yesterday", Some((FORMAT, 0, 1)), Some((FORMAT, 0, 1))),
-    ("2018-2-14 00:28:07Z", Some((FORMAT, 6, 7)), Some((FORMAT, 6, 7))),
-    ("2018-02-14_00:28:07", Some((FORMAT, 10, 11)), Some((FORMAT, 10, 11))),
-    ("２018-02-14 00:28:07", Some((FORMAT, 0, 3)), Some((FORMAT, 0, 3))),
-    ("201x-02-14 00:28:07", Some((DIGIT, 3, 4)), Some((FORMAT, 3, 4))),
-    ("201x/02-14 00:28:07", Some((FORMAT, 3, 4)), Some((FORMAT, 3, 4))),
-    ("1969-12-31 00:00:00", Some((OUT_OF_RANGE, 0, 4)), Some((FORMAT, 10, 11))),
-    ("2018-13-14 24:28:07", Some((OUT_OF_RANGE, 5, 7)), Some((FORMAT, 10, 11))),
-    ("2018-02-30 24:61:00junk", Some((OUT_OF_RANGE, 8, 10)), Some((FORMAT, 10, 11))),
-    ("2018-02-14T24:00:00Z", Some((OUT_OF_RANGE, 11, 13)), Some((OUT_OF_RANGE, 11, 13))),
-    ("2018-02-14T23:60:61Z", Some((OUT_OF_RANGE, 14, 16)), Some((OUT_OF_RANGE, 14, 16))),
-    ("2018-02-14T23:59:61Z", Some((OUT_OF_RANGE, 17, 19)), Some((OUT_OF_RANGE, 17, 19))),
-    ("2018-02-14T00:28:07+02:00", Some((FORMAT, 19, 25)), Some((FORMAT, 19, 25))),
-    ("2018-02-14 00:28:07Zabc", Some((FORMAT, 20, 23)), Some((FORMAT, 10, 11))),
-    ("2018-02-14T00:28:07.5+02:00", Some((DIGIT, 21, 27)), Some((FORMAT, 21, 27))),
-    ("2018-02-14T00:28:07.12a45Z", Some((DIGIT, 22, 26)), Some((DIGIT, 22, 26))),
-    ("2018-02-14T00:28:07.5+00:00Z", Some((DIGIT, 27, 28)), Some((DIGIT, 27, 28))),
-    ("2018-02-14T00:28:07.5", None, Some((FORMAT, 21, 21))),
-    ("2018-02-14T00:28:07 UTC", Some((FORMAT, 19, 23)), Some((FORMAT, 19, 23))),
-];
-
 #[test]
 fn a_timestamp_has_its_place(rt: HostRuntime) {
-    for (text, weak, strict) in TIMESTAMPS {
-        assert_eq!(rt; place(parse_rfc3339_weak(text).err()), *weak, "{text}");
-        assert_eq!(rt; place(parse_rfc3339(text).err()), *strict, "{text}");
+    let format = |start: usize, end: usize| -> Place { Some((FORMAT, start, end)) };
+    let digit = |start: usize, end: usize| -> Place { Some((TimestampError::InvalidDigit, start, end)) };
+    let range = |start: usize, end: usize| -> Place { Some((TimestampError::OutOfRange, start, end)) };
+    for (text, weak, strict) in [
+        ("", format(0, 0), format(0, 0)), ("2", format(1, 1), format(1, 1)), ("é", format(0, 2), format(0, 2)),
+        ("2018-02-14", format(10, 10), format(10, 10)), ("yesterday", format(0, 1), format(0, 1)),
+        ("2018-2-14 00:28:07Z", format(6, 7), format(6, 7)), ("2018-02-14_00:28:07", format(10, 11), format(10, 11)),
+        ("２018-02-14 00:28:07", format(0, 3), format(0, 3)), ("201x-02-14 00:28:07", digit(3, 4), format(3, 4)),
+        ("201x/02-14 00:28:07", format(3, 4), format(3, 4)), ("1969-12-31 00:00:00", range(0, 4), format(10, 11)),
+        ("2018-13-14 24:28:07", range(5, 7), format(10, 11)), ("2018-02-30 24:61:00junk", range(8, 10), format(10, 11)),
+        ("2018-02-00 00:28:07", range(8, 10), format(10, 11)), ("2018-00-14 00:28:07", range(5, 7), format(10, 11)),
+        ("2018-02-14T00:28:07Z+00:00", format(20, 26), format(20, 26)), ("2018-02-14T24:00:00Z", range(11, 13), range(11, 13)),
+        ("2018-02-14T23:60:61Z", range(14, 16), range(14, 16)), ("2018-02-14T23:59:61Z", range(17, 19), range(17, 19)),
+        ("2018-02-14T00:28:07+02:00", format(19, 25), format(19, 25)), ("2018-02-14 00:28:07Zabc", format(20, 23), format(10, 11)),
+        ("2018-02-14T00:28:07.5+02:00", digit(21, 27), format(21, 27)), ("2018-02-14T00:28:07.12a45Z", digit(22, 26), digit(22, 26)),
+        ("2018-02-14T00:28:07.5+00:00Z", digit(27, 28), digit(27, 28)), ("2018-02-14T00:28:07.5", None, format(21, 21)),
+        ("2018-02-14T00:28:07 UTC", format(19, 23), format(19, 23)),
+    ] {
+        assert_eq!(rt; place(parse_rfc3339_weak(text).err()), weak, "{text}");
+        assert_eq!(rt; place(parse_rfc3339(text).err()), strict, "{text}");
     }
 }
 
 #[test]
 fn an_overflow_has_its_span(rt: HostRuntime) {
     for (text, start, end) in [
-        ("18446744073709551615m", 0, 21),
-        ("1s 0.0001h 3s", 3, 10),
-        ("584542046090y 584542046090y", 14, 27),
-        ("584542046090y 1h 584542046090y 1h x", 17, 30),
-        ("1ns18446744073709551615ns 5s", 3, 25),
-        ("\u{2003}1s\u{2003}0.5ns\u{2003}x", 8, 13),
-        ("1s 99999999999999999999s", 3, 24),
-        ("1s 0.12345678901234567891h", 3, 26),
-        ("18446744073709551616~ 1s", 0, 24),
-        ("18446744073709551615s 1s 99999999999999999999s", 22, 24),
+        ("18446744073709551615m", 0, 21), ("1s 0.0001h 3s", 3, 10), ("584542046090y 584542046090y", 14, 27),
+        ("584542046090y 1h 584542046090y 1h x", 17, 30), ("1ns18446744073709551615ns 5s", 3, 25),
+        ("\u{2003}1s\u{2003}0.5ns\u{2003}x", 8, 13), ("1s 99999999999999999999s", 3, 24), ("1s 0.12345678901234567891h", 3, 26),
+        ("18446744073709551616~ 1s", 0, 24), ("18446744073709551615s 1s 99999999999999999999s", 22, 24),
     ] {
         let error = parse_duration(text).expect_err(&rt, "it overflows");
         assert_eq!(rt; error, Located { error: DurationError::NumberOverflow, start, end }, "{text}");
     }
+}
+
+/// The lines below the message of any range, also of one that no parser returns.
+#[test]
+fn any_range_is_shown(rt: HostRuntime) -> Result<(), Fail> {
+    for (text, start, end, lines) in &[
+        ("", 0, 0, "\n  \n  ^"), ("ab", 1, 99, "\n  ab\n   ^"), ("ab", 2, 1, "\n  ab\n    ^"), ("ab", 7, 9, "\n  ab\n    ^"),
+        ("é", 1, 2, "\n  é\n   ^"), ("aé", 0, 2, "\n  aé\n  ^"), ("a\t\tb中文", 4, 10, "\n  a\t\tb中文\n   \t\t ^^^^"),
+        ("\u{301}", 0, 2, "\n  \u{301}\n  ^"), ("\u{1b}\0\r", 1, 2, "\n  \u{1b}\0\r\n   ^"),
+    ] {
+        let report = Located { error: FORMAT, start: *start, end: *end }.report(text).to_string(rt.alloc())?;
+        assert_eq!(rt; report.as_str().strip_prefix("timestamp format is invalid"), Some(*lines), "{text}");
+    }
+    let error = parse_duration(" \n\t\n").expect_err(&rt, "it is empty");
+    assert_eq!(rt; format!(in rt.alloc(); "{error:#}")?.as_str(), "value was empty");
+    assert_eq!(rt; error.report(" \n\t\n").to_string(rt.alloc())?.as_str(), "line 1: value was empty\n   \n  ^");
+    let tabs = "\t".repeat(rt.alloc(), 1 << 20)?;
+    let text = format!(in rt.alloc(); "1h\n2{tabs}x\n3h")?;
+    let report = parse_duration(&text).expect_err(&rt, "no such unit").report(&text).to_string(rt.alloc())?;
+    let lines = format!(in rt.alloc(); "\n  2{tabs}x\n   {tabs}^")?;
+    assert!(rt; report.starts_with("line 2: unknown time unit \"x\"") && report.ends_with(lines.as_str()));
+    assert_eq!(rt; StdDuration::from_secs(20).checked_div(3), Some(StdDuration::new(6, 666_666_666)));
+    Ok(())
 }
 
 #[test]
