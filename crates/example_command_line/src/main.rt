@@ -9,9 +9,10 @@ use humantime::{Duration, Timestamp};
 use humantime_std::Located;
 use humantime_std::located::{parse_duration, parse_rfc3339_weak};
 use std::alloc::{AllocError, Global};
+use std::env;
 use std::fmt::Display;
+use std::io::{self, Write};
 use std::process::ExitCode;
-use std::{env, io};
 
 /// The options of the command line.
 #[derive(Clone, Copy, Debug, PartialEq)]
@@ -23,18 +24,34 @@ pub struct Options {
 
 fn main(rt: HostRuntime) -> io::Result<ExitCode> {
     let words = env::args(&rt)?.collect::<Vec<String>>(rt.alloc())?;
-    match options_of(rt.alloc(), &words) {
+    let status = run(rt.alloc(), &words, &mut rt.stdout(), &mut rt.stderr())?;
+    Ok(ExitCode::from(status))
+}
+
+/// Writes the options of a command line, or help, or what is wrong, and returns the exit status.
+pub fn run(
+    alloc: Global,
+    words: &[String],
+    out: &mut impl Write,
+    err: &mut impl Write,
+) -> io::Result<u8> {
+    match options_of(alloc, words) {
         Ok(options) => {
-            println!(rt; "timeout {}, window {}", options.timeout, options.window)?;
+            let (timeout, window) = (options.timeout, options.window);
+            writeln!(out, "timeout {timeout}, window {window}")?;
             if let Some(since) = options.since {
-                println!(rt; "since {since}")?;
+                writeln!(out, "since {since}")?;
             }
-            Ok(ExitCode::SUCCESS)
+            Ok(0)
         }
         Err(error) if error.kind() == ErrorKind::OutOfMemory => Err(AllocError.into()),
-        Err(error) => {
-            error.print(&rt)?;
-            Ok(ExitCode::from(error.exit_code() as u8))
+        Err(error) if error.use_stderr() => {
+            write!(err, "{error}")?;
+            Ok(2)
+        }
+        Err(help) => {
+            write!(out, "{help}")?;
+            Ok(0)
         }
     }
 }

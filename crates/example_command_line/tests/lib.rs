@@ -2,19 +2,45 @@
 #![tactic(auto)]
 
 use clap::Error;
-use example_command_line::{Options, options_of};
+use example_command_line::{Options, options_of, run};
 use humantime::{Duration, StdDuration};
 use std::alloc::{AllocError, Global};
 use std::test::Fail;
 
-/// Returns the options of these words after the program's name.
-fn parsed(alloc: Global, words: &[&str]) -> Result<Result<Options, Error>, AllocError> {
+/// Returns the program's name and these words.
+fn line_of(alloc: Global, words: &[&str]) -> Result<Vec<String>, AllocError> {
     let mut line = Vec::new(alloc);
     line.push(String::from_str(alloc, "example_command_line")?)?;
     for word in words {
         line.push(String::from_str(alloc, word)?)?;
     }
-    Ok(options_of(alloc, &line))
+    Ok(line)
+}
+
+/// Returns the options of these words after the program's name.
+fn parsed(alloc: Global, words: &[&str]) -> Result<Result<Options, Error>, AllocError> {
+    Ok(options_of(alloc, &line_of(alloc, words)?))
+}
+
+#[test]
+fn each_stream_is_written(rt: HostRuntime) -> Result<(), Fail> {
+    let usage = "\n\nUsage: example_command_line [OPTIONS]\n\nFor more information, try '--help'.\n";
+    for (words, status, options, error) in &[
+        (["--timeout", "1.5min"].as_slice(), 0, "timeout 1m 30s, window 1year\n", ""),
+        (["--window=0", "--since", "2018-02-14 00:28:07.5"].as_slice(), 0, "timeout 30s, window 0s\nsince 2018-02-14T00:28:07.500000000Z\n", ""),
+        (["--timeout", "1h 2x", "--since", "x"].as_slice(), 2, "", "error: --timeout: unknown time unit \"x\", supported units: ns, us/µs, ms, sec, min, hours, days, weeks, months, years (and few variations)\n  1h 2x\n      ^"),
+        (["--since", "2018-02-14\n"].as_slice(), 2, "", "error: --since: line 1: timestamp format is invalid\n  2018-02-14\n            ^"),
+    ] {
+        let (mut out, mut err) = (Vec::new(rt.alloc()), Vec::new(rt.alloc()));
+        assert_eq!(rt; run(rt.alloc(), &line_of(rt.alloc(), words)?, &mut out, &mut err)?, *status);
+        assert_eq!(rt; String::from_utf8(out)?.as_str(), *options);
+        let written = String::from_utf8(err)?;
+        assert_eq!(rt; written.as_str().strip_suffix(if *status == 0 { "" } else { usage }), Some(*error));
+    }
+    let (mut out, mut err) = (Vec::new(rt.alloc()), Vec::new(rt.alloc()));
+    assert_eq!(rt; run(rt.alloc(), &line_of(rt.alloc(), &["--help"])?, &mut out, &mut err)?, 0);
+    assert!(rt; String::from_utf8(out)?.as_str().contains("--since <TIMESTAMP>") && err.is_empty());
+    Ok(())
 }
 
 #[test]

@@ -5,15 +5,14 @@
 //! exit status is 0, or 2 if an argument or a line is wrong, or 1 if reading or writing fails or an allocation fails.
 #![tactic(auto)]
 
-ghost use Rattle.std.specs.Prelude.{◌≡◌, ◌*◌, min};
-
 use humantime::{
     DurationError, StdDuration, SystemTime, TimestampError, format_duration, format_rfc3339,
 };
 use humantime_std::located::{parse_duration, parse_rfc3339};
-use humantime_std::{Located, StdDurationExt, next_run};
+use humantime_std::{Located, next_delay, next_run};
+use std::io::{self, Write};
 use std::process::ExitCode;
-use std::{env, fmt, fs, io};
+use std::{env, fmt, fs};
 
 #[derive(Clone, Copy)]
 struct Job<'a> {
@@ -27,7 +26,7 @@ struct Job<'a> {
 struct Retry {
     first: StdDuration,
     most: StdDuration,
-    factor: u32,
+    factor: u64,
 }
 
 /// A wrong text, and what is wrong with it.
@@ -43,7 +42,7 @@ impl fmt::Display for Wrong<'_> {
         match self {
             Wrong::Time(text, error) => error.report(text).fmt(f),
             Wrong::Duration(text, error) => error.report(text).fmt(f),
-            Wrong::Retry(text) => write!(f, "not of the form FIRST..MOST xN\n  {text}"),
+            Wrong::Retry(text) => write!(f, "not in the format FIRST..MOST xN\n  {text}"),
         }
     }
 }
@@ -82,52 +81,56 @@ fn read_retry(text: &str) -> Result<Retry, Wrong<'_>> {
     })
 }
 
-/// Returns the delay after one more failure: `factor` times as long, but not longer than `most`.
-fn next_delay(delay: StdDuration, factor: u32, most: StdDuration) -> StdDuration
-    ensures { result ≡ min (delay * factor) most }
-{
-    let longer = delay.to_std().saturating_mul(factor);
-    StdDuration::from_std(longer.min(most.to_std()))
-}
-
-/// Prints the delays after the first failures of a job.
-fn print_delays(rt: &impl Print, retry: Retry) -> io::Result<()> {
+/// Writes the delays after the first failures of a job.
+fn write_delays(out: &mut impl Write, retry: Retry) -> io::Result<()> {
     let mut delay = retry.first.min(retry.most);
     for failures in 1..=5 {
-        println!(rt;
-            "after failure {failures}: again in {}",
-            format_duration(delay)
-        )?;
+        let again = format_duration(delay);
+        writeln!(out, "after failure {failures}: again in {again}")?;
         delay = next_delay(delay, retry.factor, retry.most);
     }
     Ok(())
 }
 
-fn print_next(rt: &impl Print, job: Job<'_>, now: SystemTime) -> io::Result<()> {
+fn write_next(out: &mut impl Write, job: Job<'_>, now: SystemTime) -> io::Result<()> {
     let name = job.name;
     let Some(next) = next_run(job.last, job.every, now) else {
-        return println!(rt; "{name}: no next run");
+        return writeln!(out, "{name}: no next run");
     };
     // The contract of `next_run` says that the run is not before `now`.
     let wait = format_duration(next.duration_since(now).unwrap());
     match format_rfc3339(next).text(&mut [0; 30]) {
-        Some(time) => println!(rt; "{name}: {time}, in {wait}"),
-        None => println!(rt; "{name}: after the year 9999, in {wait}"),
+        Some(time) => writeln!(out, "{name}: {time}, in {wait}"),
+        None => writeln!(out, "{name}: after the year 9999, in {wait}"),
     }
 }
 
-/// Prints the next run of each job in a text, and the errors of the other lines. Returns the exit status.
-fn print_all(rt: &(impl Print + Eprint), text: &str, now: SystemTime) -> io::Result<u8> {
+/// Writes the next run of each job in a text, the errors of the other lines, and the delays. Returns the exit status.
+pub fn run(
+    text: &str,
+    now: &str,
+    retry: &str,
+    out: &mut impl Write,
+    err: &mut impl Write,
+) -> io::Result<u8> {
+    let (now, retry) = match (read_time(now), read_retry(retry)) {
+        (Ok(now), Ok(retry)) => (now, retry),
+        (Err(wrong), _) | (_, Err(wrong)) => {
+            writeln!(err, "schedule: {wrong}")?;
+            return Ok(2);
+        }
+    };
     let mut status = 0;
     for (index, line) in text.lines().enumerate() {
         match read_job(line) {
-            Ok(job) => print_next(rt, job, now)?,
+            Ok(job) => write_next(out, job, now)?,
             Err(wrong) => {
-                eprintln!(rt; "line {}: {wrong}", index + 1)?;
+                writeln!(err, "line {}: {wrong}", index + 1)?;
                 status = 2;
             }
         }
     }
+    write_delays(out, retry)?;
     Ok(status)
 }
 
@@ -137,13 +140,6 @@ fn main(rt: HostRuntime) -> io::Result<ExitCode> {
         eprintln!(rt; "usage: schedule FILE NOW RETRY")?;
         return Ok(ExitCode::from(2));
     };
-    let (now, retry) = match (read_time(now), read_retry(retry)) {
-        (Ok(now), Ok(retry)) => (now, retry),
-        (Err(wrong), _) | (_, Err(wrong)) => {
-            eprintln!(rt; "schedule: {wrong}")?;
-            return Ok(ExitCode::from(2));
-        }
-    };
     let text = match fs::read_to_string(&rt, path.as_str()) {
         Ok(text) => text,
         Err(error) => {
@@ -151,7 +147,6 @@ fn main(rt: HostRuntime) -> io::Result<ExitCode> {
             return Ok(ExitCode::FAILURE);
         }
     };
-    let status = print_all(&rt, &text, now)?;
-    print_delays(&rt, retry)?;
+    let status = run(&text, now, retry, &mut rt.stdout(), &mut rt.stderr())?;
     Ok(ExitCode::from(status))
 }

@@ -9,8 +9,9 @@ use humantime_settings::{SettingsError, from_toml, to_toml};
 use serde::{Deserialize, Serialize};
 use std::alloc::Global;
 use std::collections::BTreeMap;
+use std::io::{self, Write};
 use std::process::ExitCode;
-use std::{env, fs, io, time};
+use std::{env, fs, time};
 
 /// The settings of a program.
 #[derive(Drop, Serialize, Deserialize)]
@@ -47,27 +48,28 @@ fn canonical(alloc: Global, text: &str) -> Result<String, SettingsError> {
     to_toml(alloc, &settings)
 }
 
+/// Writes the settings of a file with canonical strings, or what is wrong with them, and returns the exit status.
+pub fn run(
+    alloc: Global,
+    path: &str,
+    text: &str,
+    out: &mut impl Write,
+    err: &mut impl Write,
+) -> io::Result<ExitCode> {
+    match canonical(alloc, text) {
+        Ok(settings) => write!(out, "{settings}").map(|()| ExitCode::SUCCESS),
+        Err(error) => writeln!(err, "{path}: {error}").map(|()| ExitCode::FAILURE),
+    }
+}
+
 fn main(rt: HostRuntime) -> io::Result<ExitCode> {
     let words = env::args(&rt)?.skip(1).collect::<Vec<String>>(rt.alloc())?;
     let [path] = words.as_slice() else {
         eprintln!(rt; "usage: example_settings FILE")?;
         return Ok(ExitCode::from(2));
     };
-    let text = match fs::read_to_string(&rt, path.as_str()) {
-        Ok(text) => text,
-        Err(error) => {
-            eprintln!(rt; "{path}: {error}")?;
-            return Ok(ExitCode::FAILURE);
-        }
-    };
-    match canonical(rt.alloc(), &text) {
-        Ok(settings) => {
-            print!(rt; "{settings}")?;
-            Ok(ExitCode::SUCCESS)
-        }
-        Err(error) => {
-            eprintln!(rt; "{path}: {error}")?;
-            Ok(ExitCode::FAILURE)
-        }
+    match fs::read_to_string(&rt, path.as_str()) {
+        Ok(text) => run(rt.alloc(), path, &text, &mut rt.stdout(), &mut rt.stderr()),
+        Err(error) => eprintln!(rt; "{path}: {error}").map(|()| ExitCode::FAILURE),
     }
 }
