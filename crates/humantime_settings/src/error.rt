@@ -32,10 +32,9 @@ use std::fmt::{self, InlineText};
 pub enum SettingsError {
     /// An allocation failed.
     OutOfMemory,
-    /// An error at a known position.
+    /// An error at a position of a document.
     At(Marked),
-    /// The message of an error without a known position, such as that of a value that cannot be written, or of an item in TOML that is no
-    /// variant of an untagged enum.
+    /// The message of an error without a position: that of a value that cannot be written.
     Whole(String),
 }
 
@@ -263,7 +262,13 @@ pub(crate) fn marked_at(alloc: Global, text: &str, fault: Fault) -> Result<Marke
 fn line_number(text: &str) -> usize
     ensures { result ≡ count_by is_line_feed text.now + 1 }
 {
-    text.bytes().filter(|b| *b == b'\n').count() + 1
+    let (mut line, bytes) = (1, text.as_bytes());
+    for byte in bytes {
+        if *byte == b'\n' {
+            line += 1;
+        }
+    }
+    line
 }
 
 /// Returns the string before the first line feed, or the whole string if it has none.

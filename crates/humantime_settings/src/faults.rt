@@ -5,7 +5,7 @@ use humantime_std::located::{Located, parse_duration, parse_rfc3339_weak};
 use std::alloc::{AllocError, Global};
 use std::fmt::{Display, InlineText};
 
-/// A message as the error of a format has it: its first 80 bytes, which end in dots if it is longer.
+/// A message as a field gives it to a format: its first 80 bytes, which end in dots if it is longer.
 pub(crate) type Message = InlineText<80>;
 
 /// What is wrong with a string, and where.
@@ -30,7 +30,7 @@ impl Fault {
     }
 }
 
-/// Returns the fault of the string literal at an offset of a document, if `said`, which the format may have cut, is its message.
+/// Returns the fault of the string literal at an offset of a document, if `said` is its message.
 pub(crate) fn fault_in(
     alloc: Global,
     said: &str,
@@ -65,10 +65,7 @@ fn said_fault<E: Display + Drop>(
         return Ok(None);
     };
     let message = error.to_string(alloc)?;
-    let is_said = match said.strip_suffix("...") {
-        Some(front) => message.starts_with(front),
-        None => said == message.as_str(),
-    };
+    let is_said = Message::of(message.as_str()).as_str() == said;
     let literal = document.get(at..).unwrap_or("");
     let (start, end) = raw_range(literal, text, error.start, error.end);
     Ok(is_said.then_some(Fault {

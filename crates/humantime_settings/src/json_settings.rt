@@ -8,9 +8,11 @@ ghost use Rattle.serde_json.specs.Sent.{AreTokensOf};
 ghost use Rattle.humantime_settings.specs.Marks.{IsErrorIn};
 
 use crate::error::{SettingsError, marked_at};
-use crate::faults::{Fault, fault_in};
-use crate::path::{Step, path_to};
-use json::{Scratch, Token};
+use crate::faults::Fault;
+use crate::json_positions::found_at;
+use crate::rejection::{Cause, Part, Rejection, fault_at};
+use crate::trace::Traced;
+use json::Scratch;
 use serde::{Deserialize, Serialize};
 use std::alloc::{AllocError, Global};
 
@@ -46,7 +48,7 @@ pub fn from_json<'a, T: Deserialize<'a>>(alloc: Global, text: &'a str) -> Result
     if error.is_memory() {
         return Err(SettingsError::OutOfMemory);
     }
-    let fault = located(alloc, text, &error)?;
+    let fault = located::<T>(alloc, text, &error)?;
     Err(SettingsError::At(marked_at(alloc, text, fault)?))
 }
 
@@ -79,58 +81,51 @@ pub fn to_json<T: Serialize>(alloc: Global, value: &T) -> Result<String, Setting
 }
 
 /// Returns the fault of an error in a document.
-fn located(alloc: Global, text: &str, error: &serde_json::Error) -> Result<Fault, AllocError> {
-    let (message, at) = (message_of(alloc, error)?, offset_of(text, error));
+fn located<'a, T: Deserialize<'a>>(
+    alloc: Global,
+    text: &'a str,
+    error: &serde_json::Error,
+) -> Result<Fault, AllocError> {
+    let Some(rejection) = rejection_of::<T>(alloc, text)? else {
+        return Ok(Fault::at(error_offset(text, error), message_of(alloc, error)?));
+    };
     let mut scratch = Scratch::new(alloc);
-    let (path, token) = path_to(alloc, text, at, &mut scratch)?;
-    match (path.last(), token) {
-        (Some(Step::Key(_, start)), _) if message.starts_with("duplicate field") => {
-            return Ok(Fault::at(*start, message));
-        }
-        (_, Token::String(string) | Token::Key(string)) => {
-            if let Some(fault) = fault_in(alloc, &message, text, at, string)? {
-                return Ok(fault);
-            }
-        }
-        _ => {}
+    let (at, mut found) = found_at(alloc, text, &rejection.path, rejection.part, &mut scratch)?;
+    if matches!(rejection.cause, Cause::Long(_) | Cause::Short) {
+        found.len = array_len(alloc, text, &rejection.path)?;
     }
-    Ok(Fault::at(at, with_token(alloc, message, token)?))
+    fault_at(alloc, text, at, &rejection, &found)
+}
+
+/// Returns how many items the array has to which a path leads.
+fn array_len(alloc: Global, text: &str, path: &[usize]) -> Result<usize, AllocError> {
+    let mut scratch = Scratch::new(alloc);
+    let (_, end) = found_at(alloc, text, path, Part::End, &mut scratch)?;
+    Ok(end.len)
+}
+
+/// Returns why a document does not contain a value, or `None` if it is not JSON or contains one, or if the value borrows the string that its
+/// type rejects.
+fn rejection_of<'a, T: Deserialize<'a>>(
+    alloc: Global,
+    text: &'a str,
+) -> Result<Option<Rejection>, AllocError> {
+    match serde_json::from_str::<Traced<T>>(alloc, text) {
+        Ok(Traced(read)) => Ok(read.err()),
+        Err(error) if error.is_memory() => Err(AllocError),
+        Err(_) => Ok(None),
+    }
 }
 
 /// Returns the message of an error without its position.
-pub(crate) fn message_of(alloc: Global, error: &serde_json::Error) -> Result<String, AllocError> {
+fn message_of(alloc: Global, error: &serde_json::Error) -> Result<String, AllocError> {
     let mut message = error.to_string(alloc)?;
     message.truncate(message.rfind(" at line ").unwrap_or(message.len()));
     Ok(message)
 }
 
-/// Returns a message with the type, the number or the name that `serde_json` leaves out.
-fn with_token(alloc: Global, message: String, token: Token<'_>) -> Result<String, AllocError> {
-    match (message.as_str(), token) {
-        ("invalid type", _) => format!(in alloc; "{message}: {}", type_of(token)),
-        ("invalid value", Token::Number(n)) => format!(in alloc; "{message}: number `{n}`"),
-        ("unknown field" | "unknown variant", Token::String(name) | Token::Key(name)) => {
-            format!(in alloc; "{message} `{name}`")
-        }
-        _ => Ok(message),
-    }
-}
-
-/// Returns what the error of `serde` calls the type of the value that begins with a token.
-fn type_of(token: Token<'_>) -> &'static str {
-    match token {
-        Token::String(_) | Token::Key(_) => "string",
-        Token::BeginArray => "sequence",
-        Token::BeginObject => "map",
-        Token::Bool(_) => "boolean",
-        Token::Null => "null",
-        _ => "number",
-    }
-}
-
-/// Returns the offset of an error in the document: where the value or the key with the error begins, or where the object ends that lacks a
-/// key. The error has a line, from 1, and a column, in bytes from 1.
-pub(crate) fn offset_of(document: &str, error: &serde_json::Error) -> usize {
+/// Returns the offset of an error, which has a line, from 1, and a column, in bytes from 1.
+fn error_offset(document: &str, error: &serde_json::Error) -> usize {
     let mut offset = error.column().saturating_sub(1);
     for line in document
         .split_inclusive('\n')

@@ -1,12 +1,12 @@
 //! Settings with durations and timestamps as strings: `serde` reads and writes them in JSON, TOML or another format. Errors of the
-//! first two mostly have a position.
+//! first two have a position.
 //!
 //! - [`#[serde(with = "humantime_settings")]`](Field) marks a field of a type that derives `Serialize` or `Deserialize`: a duration, a
 //!   timestamp, or a list or a map of these. An `Option` also needs `default`, as in `#[serde(default, with = "humantime_settings")]`, to
 //!   be `None` if it is missing.
 //! - [`AsText`] wraps the key of a map, or an item of another collection.
-//! - [`from_json`] and [`from_toml`] read settings. Their error, [`SettingsError`], mostly has a line and a column, and prints the message
-//!   of `humantime`, the line, and carets under what is wrong.
+//! - [`from_json`] and [`from_toml`] read settings. Their error, [`SettingsError`], has a line and a column, and prints the message of
+//!   `humantime` or `serde`, the line, and carets under what is wrong.
 //! - [`to_json`] and [`to_toml`] write settings, each marked value as its canonical string.
 //!
 //! # Examples
@@ -51,11 +51,13 @@
 mod error;
 mod faults;
 mod fields;
+mod json_positions;
 mod json_settings;
-mod path;
 mod raw_strings;
+mod rejection;
 mod toml_places;
 mod toml_settings;
+mod trace;
 
 pub use error::{Marked, SettingsError};
 pub use fields::{AsText, Field, deserialize, serialize};

@@ -1,9 +1,16 @@
 //! The place in a TOML document to which a path leads.
 
-use crate::path::Step;
 use std::alloc::Global;
 use toml_parser::text::{first, skip_blank, skip_ws};
 use toml_parser::{ParseError, quoted, starts_string};
+
+/// A step from a table or an array to a value in it.
+#[derive(Clone, Copy)]
+pub(crate) enum Step<'a> {
+    Key(&'a str),
+    /// The number of the item, from 1.
+    Item(usize),
+}
 
 /// A key with its value, or an item of an array.
 #[derive(Clone, Copy)]
@@ -174,7 +181,7 @@ impl<'a> Walk<'a> {
 /// Returns what is left of a path behind a key.
 fn behind<'a>(left: Left<'a>, name: &str) -> Left<'a> {
     match left? {
-        [Step::Key(key, _), behind @ ..] if *key == name => Some(behind),
+        [Step::Key(key), behind @ ..] if *key == name => Some(behind),
         _ => None,
     }
 }

@@ -72,15 +72,15 @@ const JSON: &[Case<'static>] = &[
     (r#"{"timeout":"2h","days":{"a":null}}"#, 1, 29, "", "expected a timestamp in quotes"),
     (r#"{"timeout":"2h","zone":90}"#, 1, 24, "", "expected a timestamp in quotes"),
     // Values of a wrong type for fields that are not of this crate.
-    (r#"{"timeout":"2h","counts":[1,true]}"#, 1, 29, "", "invalid type: boolean"),
-    (r#"{"timeout":"2h","counts":[1, null]}"#, 1, 30, "", "invalid type: null"),
-    (r#"{"timeout":"2h","counts":["2"]}"#, 1, 27, "", "invalid type: string"),
-    (r#"{"timeout":"2h","counts":[[2]]}"#, 1, 27, "", "invalid type: sequence"),
-    (r#"{"timeout":"2h","counts": {}}"#, 1, 27, "", "invalid type: map"),
-    (r#"{"timeout":"2h","more.every":-7}"#, 1, 30, "", "invalid type: number"),
-    (r#"{"timeout":"2h","job":false}"#, 1, 23, "", "invalid type: boolean"),
+    (r#"{"timeout":"2h","counts":[1,true]}"#, 1, 29, "", "invalid type: boolean `true`, expected an integer"),
+    (r#"{"timeout":"2h","counts":[1, null]}"#, 1, 30, "", "invalid type: null, expected an integer"),
+    (r#"{"timeout":"2h","counts":["2"]}"#, 1, 27, "", "invalid type: string \"2\", expected an integer"),
+    (r#"{"timeout":"2h","counts":[[2]]}"#, 1, 27, "", "invalid type: sequence, expected an integer"),
+    (r#"{"timeout":"2h","counts": {}}"#, 1, 27, "", "invalid type: map, expected a sequence"),
+    (r#"{"timeout":"2h","more.every":-7}"#, 1, 30, "", "invalid type: integer `-7`, expected a string"),
+    (r#"{"timeout":"2h","job":false}"#, 1, 23, "", "invalid type: boolean `false`, expected a map"),
     // A number that does not fit, and a key that stands twice.
-    (r#"{"counts":[1, 9223372036854775808 ]}"#, 1, 15, "", "invalid value: number `9223372036854775808`"),
+    (r#"{"counts":[1, 9223372036854775808 ]}"#, 1, 15, "", "invalid value: integer `9223372036854775808`, expected an integer in range"),
     ("{\"timeout\":\"2h\",\n \"timeout\" :\n\"2h\"}", 2, 2, "", "duplicate field `timeout`"),
     // A field that stands twice, whose value is read first or not, and is a string, a list or a map; and a key with an escape.
     ("{\"timeout\":\"2h\",\"time\\u006fut\":\"\\\"\"}", 1, 17, "", "duplicate field `timeout`"),
@@ -89,22 +89,22 @@ const JSON: &[Case<'static>] = &[
     (r#"{"waits":["1s"],"waits":["2s"]}"#, 1, 17, "", "duplicate field `waits`"),
     (r#"{"ends":{},"ends":{"a":"2018-02-14 00:28:07"}}"#, 1, 12, "", "duplicate field `ends`"),
     // What is missing, unknown or cut.
-    ("{\"timeout\":\"2h\",\n\"job\":{ \"nm\\u0061e\\n\":1}}", 2, 9, "", "unknown field `nmae\n`"),
+    ("{\"timeout\":\"2h\",\n\"job\":{ \"nm\\u0061e\\n\":1}}", 2, 9, "", "unknown field `nmae\n`, expected one of `name`, `every`, `since`, `keep`"),
     ("{\n  \"timeout\": \"2h\",\n  \"job\": {\"name\": \"é\", \"every\": \"5us\"}\n}", 3, 38, "", "missing field `since`"),
-    ("{\"timeout\":\"2h\",\n\"job\":{\"nmae\":\"é\"}}", 2, 8, "", "unknown field `nmae`"),
+    ("{\"timeout\":\"2h\",\n\"job\":{\"nmae\":\"é\"}}", 2, 8, "", "unknown field `nmae`, expected one of `name`, `every`, `since`, `keep`"),
     (r#"{"timeout":"2h""#, 1, 15, "", "EOF while parsing"),
     // Fields that are lists or maps, with a wrong item, or with what is no list and no map.
     (r#"{"waits":["1s","2s 1~"]}"#, 1, 21, "~", "invalid character at 4"),
     (r#"{"waits":["1s",null]}"#, 1, 16, "", "expected a duration in quotes"),
     (r#"{"ends":{"a":1}}"#, 1, 14, "", "expected a timestamp in quotes"),
-    (r#"{"waits":"1s"}"#, 1, 10, "", "invalid type: string"),
-    (r#"{"waits":null}"#, 1, 10, "", "invalid type: null"),
+    (r#"{"waits":"1s"}"#, 1, 10, "", "invalid type: string \"1s\", expected a sequence"),
+    (r#"{"waits":null}"#, 1, 10, "", "invalid type: null, expected a sequence"),
     // At most one byte.
     ("", 1, 1, "", "EOF while parsing"),
     ("{", 1, 1, "", "EOF while parsing"),
     (r#"""#, 1, 1, "", "EOF while parsing"),
     ("}", 1, 1, "", "invalid JSON"),
-    ("7", 1, 1, "", "invalid type: number"),
+    ("7", 1, 1, "", "invalid type: integer `7`, expected a map"),
 ];
 
 const TOML_JOB: &str = "[job]\nname = \"5µs x\"\nevery = \"1d\"\nsince = \"2018-02-14T00:28:07Z\"";
@@ -157,7 +157,7 @@ const TOML: &[Case<'static>] = &[
     ("timeout = '2h'\ncounts = [ 1, 2.5, true ]\nJOB", 2, 15, "", "invalid type: floating point `2.5`, expected an integer"),
     ("timeout = '2h'\ncounts = [ 1, 2.0, true ]\nJOB", 2, 15, "", "invalid type: floating point `2.0`, expected an integer"),
     ("timeout = '2h'\ncounts = [ 1, { a = 1 } ]\nJOB", 2, 15, "", "invalid type: map, expected an integer"),
-    ("timeout = '2h'\ncounts = [ 1, 1979-05-27 ]\nJOB", 2, 15, "", "invalid type: map, expected an integer"),
+    ("timeout = '2h'\ncounts = [ 1, 1979-05-27 ]\nJOB", 2, 15, "", "invalid type: datetime, expected an integer"),
     ("timeout = '2h'\ncounts = [1, 2.0]\nJOB", 2, 14, "", "invalid type: floating point `2.0`, expected an integer"),
     ("timeout = '2h'\npairs = [[1], -1]\nJOB", 2, 15, "", "invalid type: integer `-1`, expected a sequence"),
     ("timeout = '2h'\nends.a = ['2018-02-14 00:28:07']\nJOB", 2, 10, "", "expected a timestamp in quotes"),
@@ -180,7 +180,7 @@ const TOML: &[Case<'static>] = &[
     ("timeout = '2h'\nlimit = '1s'\nJOB", 1, 1, "", "duplicate field `timeout`"),
     ("job = { name = 'a', label = 'b' }", 1, 9, "", "duplicate field `name`"),
     // What is unknown is marked at its key, and what is missing where its table begins: the first one that has no such key.
-    ("timeout = '2h'\nJOB\nnmae = 'a'\n", 6, 1, "", "unknown field `nmae`"),
+    ("timeout = '2h'\nJOB\nnmae = 'a'\n", 6, 1, "", "unknown field `nmae`, expected one of `name`, `every`, `since`, `keep`"),
     ("timeout = '2h'\nJOB\n[[more]]\nname = 'a'\nevery = '1s'\n", 6, 1, "", "missing field `since`"),
     // Documents that TOML rejects.
     ("timeout = \"2h\nJOB", 1, 14, "", "invalid string"),

@@ -1,6 +1,7 @@
 //! Tests of `humantime_settings`. The expected values were worked out by hand. They are run and not proved.
 #![tactic(auto)]
 
+mod attributes;
 mod drawn;
 mod faults;
 mod marks;
