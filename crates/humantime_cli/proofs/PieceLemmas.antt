@@ -8,9 +8,8 @@ use Rattle.std.proofs.lemmas.List.{take_min, drop_min, take-take}
 use Rattle.std.specs.Fmt.{WritesText}
 use Rattle.std.specs.Io.KnownBytes.{Appends}
 use Rattle.std.specs.List.{FoldsTo, concat}
-use Rattle.std.specs.Prelude.{Option, None, Some, IsSome, true, false, ◌||◌, nat_lt, unwrap_or}
+use Rattle.std.specs.Prelude.{Option, None, Some, IsSome, true, false, ◌||◌, ◌&&◌, ◌==◌, not, Bool, nat_lt, unwrap_or}
 use Rattle.humantime_cli.specs.Pieces.{IsPiece, AddsText}
-use Rattle.humantime_cli.specs.Writes.{line}
 use Rattle.humantime_cli.specs.declared.piece.Piece.{Piece}
 use Rattle.std.proofs.lemmas.Bool.Decides.{nat_tests}
 
@@ -54,28 +53,47 @@ longer_piece old new s rest count skip left most len cut bytes = record {
 -- What adding a text to a piece needs.
 pub ruleset pieces = (longer_piece, take-put_mid, common_steps, nat_tests)
 
--- A value and a line feed were displayed.
-pub line_of : (output : Option (List ℕ)) (start : ℕ) (old mid new : Piece) → IsSome output → WritesText AddsText old output mid → AddsText mid (10 ∷ []) new
-    → IsPiece start [] old → IsPiece start (line (unwrap_or output [])) new
-line_of None start old mid new some wrote end is = cc
-line_of (Some text) start old mid new some wrote end is =
-    end.adds start text ((subst (λ (t : List ℕ). AddsText old t mid) wrote.whole (adds_all old wrote.parts mid wrote.calls)).adds start [] is)
+-- A value was displayed to an empty piece, and a text after it.
+pub displayed : (output : Option (List ℕ)) (start : ℕ) (old new : Piece) → IsSome output → WritesText AddsText old output new → IsPiece start [] old
+    → IsPiece start (unwrap_or output []) new
+displayed None start old new some wrote is = cc
+displayed (Some text) start old new some wrote is =
+    (subst (λ (t : List ℕ). AddsText old t new) wrote.whole (adds_all old wrote.parts new wrote.calls)).adds start [] is
 
--- After the first bytes of a text, some of a piece were written: not all of it, or the piece is cut. So the text has more bytes.
-pub more_written : (old mid new : Option (List ℕ)) (text bytes : List ℕ) (done count : ℕ) (piece : Piece) → IsPiece done text piece → bytes ≡ take piece.len piece.bytes
-    → done < length text → count ≤ length bytes → (count ≡ length bytes → piece.is_cut ≡ true) → Appends old mid (take done text) → Appends mid new (take count bytes)
-    → (done + count < length text) × Appends old new (take (done + count) text)
-more_written old mid new text bytes done count piece is shown some few cut taken more =
+pub added : (start : ℕ) (text s : List ℕ) (old new : Piece) → IsPiece start text old → AddsText old s new → IsPiece start (text ++ s) new
+added start text s old new is adds = adds.adds start text is
+
+-- What a piece of a line needs.
+pub ruleset lines = (displayed, added)
+
+-- After the first bytes of a text, some of a piece were written, and more bytes of the text follow.
+pub more_left : (text bytes : List ℕ) (done count next : ℕ) (piece : Piece) (ends : Bool) → IsPiece done text piece → bytes ≡ take piece.len piece.bytes
+    → done < length text → count ≤ length bytes → ends ≡ ((count == piece.len) && not piece.is_cut) → ends ≡ false
+    → next ≡ done + count → next < length text
+more_left text bytes done count next piece ends is shown some few told more sum =
+    let size : length bytes ≡ min 192 (length text - done) = rw (shown, is.bytes, length-take, length-drop) refl in
+    grind (arith, nat_tests, is, size, told)
+
+pub more_written : (old mid new : Option (List ℕ)) (text bytes : List ℕ) (done count next : ℕ) (piece : Piece) → IsPiece done text piece
+    → bytes ≡ take piece.len piece.bytes → count ≤ length bytes → Appends old mid (take done text) → Appends mid new (take count bytes)
+    → next ≡ done + count → Appends old new (take next text)
+more_written old mid new text bytes done count next piece is shown few taken more sum =
     let size : length bytes ≡ min 192 (length text - done) = rw (shown, is.bytes, length-take, length-drop) refl in
     let first = ap (take count) (shown ∙ is.bytes) ∙ take-take count 192 (drop done text) (omega (arith, few, size)) in
     let whole = ap (λ (rest : List ℕ). take done text ++ rest) first ∙ sym (take-add done count text) in
-    (grind (arith, nat_tests, is, size, cut), subst (Appends old new) whole (Appends-trans old mid new _ _ taken more))
+    rw sum (subst (Appends old new) whole (Appends-trans old mid new _ _ taken more))
 
--- After the first bytes of a text, all of a piece that is not cut were written: so the text is written.
-pub all_written : (old mid new : Option (List ℕ)) (text bytes : List ℕ) (done count : ℕ) (piece : Piece) → IsPiece done text piece → bytes ≡ take piece.len piece.bytes
-    → done < length text → count ≡ length bytes → piece.is_cut ≡ false → Appends old mid (take done text) → Appends mid new (take count bytes) → Appends old new text
-all_written old mid new text bytes done count piece is shown some all whole taken more =
-    let short : length text - done ≤ 192 = grind (arith, nat_tests, is.cut, whole) in
-    let rest = take_all count bytes (omega arith) ∙ shown ∙ is.bytes ∙ take_all 192 (drop done text) (omega (arith, short, length-drop done text)) in
+-- After the first bytes of a text, all of a piece were written, and no more bytes follow.
+pub all_written : (old mid new : Option (List ℕ)) (text bytes : List ℕ) (done count : ℕ) (piece : Piece) (ends : Bool) → IsPiece done text piece
+    → bytes ≡ take piece.len piece.bytes → done < length text → ends ≡ ((count == piece.len) && not piece.is_cut) → ends ≡ true
+    → Appends old mid (take done text) → Appends mid new (take count bytes) → Appends old new text
+all_written old mid new text bytes done count piece ends is shown some told none taken more =
+    let short : length text - done ≤ 192 = grind (arith, nat_tests, is.cut, told) in
+    let size : length bytes ≡ min 192 (length text - done) = rw (shown, is.bytes, length-take, length-drop) refl in
+    let all : count ≡ length bytes = grind (arith, nat_tests, told, is.len, size) in
+    let rest = take_all count bytes (omega (arith, all)) ∙ shown ∙ is.bytes ∙ take_all 192 (drop done text) (omega (arith, short, length-drop done text)) in
     let same = ap (λ (r : List ℕ). take done text ++ r) rest ∙ take-append-drop done text in
     subst (Appends old new) same (Appends-trans old mid new _ _ taken more)
+
+-- The lemmas about a piece that was written.
+pub ruleset written = (more_left, more_written, all_written)

@@ -5,7 +5,7 @@ ghost use Rattle.std.specs.Prelude.{◌≤◌};
 use std::fmt;
 
 /// The maximum number of bytes in a piece. Only the message for a unit of more than 72 bytes takes more than one.
-const PIECE_LEN: usize = 192;
+pub(crate) const PIECE_LEN: usize = 192;
 
 /// The bytes of a string from an offset on, as many as fit.
 ///
@@ -17,12 +17,12 @@ pub(crate) struct Piece {
     bytes: [u8; PIECE_LEN],
     len: usize,
     /// Whether some bytes did not fit.
-    pub(crate) is_cut: bool,
+    is_cut: bool,
     ghost in_range: { len ≤ 192 },
 }
 
 impl Piece {
-    ghost use Rattle.std.specs.Prelude.{◌≡◌, [], take};
+    ghost use Rattle.std.specs.Prelude.{◌≡◌, ◌==◌, ◌&&◌, not, [], take};
     ghost use Rattle.humantime_cli.specs.Pieces.{IsPiece};
 
     /// Returns an empty piece of a string, from the offset `start` on.
@@ -42,6 +42,13 @@ impl Piece {
         ensures { result.now ≡ take self.now.len self.now.bytes }
     {
         &self.bytes[..self.len]
+    }
+
+    /// Returns `true` if no bytes of the string follow the first `count` bytes of the piece.
+    pub(crate) fn ends_after(&self, count: usize) -> bool
+        ensures { result ≡ ((count == self.now.len) && not self.now.is_cut) }
+    {
+        count == self.len && !self.is_cut
     }
 }
 

@@ -1,11 +1,26 @@
 //! Writes a whole line to a writer whose `write` may accept only part of its input.
 
-ghost use Rattle.std.specs.Prelude.{[], unwrap_or, IsSome};
+ghost use Rattle.std.specs.Prelude.{[], unwrap_or, IsSome, IfOk};
+ghost use Rattle.humantime_cli.specs.Pieces.{IsPiece};
 ghost use Rattle.humantime_cli.specs.Writes.{Writes, line};
 
-use crate::piece::Piece;
+use crate::piece::{PIECE_LEN, Piece};
 use std::fmt::{self, Display, Write as _};
 use std::io::Write;
+
+/// Returns the piece from the offset `start` on of the line that [`write_line`] writes.
+#[inline(always)]
+#[tactic(auto, using(crate::proofs::PieceLemmas::lines))]
+fn piece_of_line<D: Display + Copy>(value: D, start: usize) -> Result<Piece, fmt::Error>
+    requires { IsSome (D.output value) }
+    ensures { IfOk result (IsPiece start (line (unwrap_or (D.output value) []))) }
+{
+    let mut piece = Piece::new(start);
+    // `fmt::Write::write` of the kit displays a value.
+    piece.write(value)?;
+    piece.write_str("\n")?;
+    Ok(piece)
+}
 
 /// Writes the string that `value` displays and a line feed. A write fails if it returns an error or writes no bytes. Nothing more is written
 /// after a failed write.
@@ -13,22 +28,20 @@ use std::io::Write;
 /// If `to` failed within `Display`, no contract would say what it had received. So `value` is displayed to a [`Piece`], which never fails. It
 /// is displayed again, to a piece that begins where the last write ended, only if the line does not fit a piece or takes several writes.
 #[inline(always)]
-#[tactic(auto, unfolding(crate::specs::Writes::Writes))]
+#[tactic(auto, using(crate::proofs::PieceLemmas::written), unfolding(crate::specs::Writes::Writes))]
 pub(crate) fn write_line<W: Write, D: Display + Copy>(to: &mut W, value: D) -> fmt::Result
     requires { IsSome (D.output value) }
     ensures { Writes result (W.contents to.old) (W.contents to.new) (line (unwrap_or (D.output value) [])) }
 {
     let mut done: usize = 0;
-    loop {
-        let mut piece = Piece::new(done);
-        // `fmt::Write::write` of the kit displays a value.
-        piece.write(value)?;
-        piece.write_str("\n")?;
-        let bytes = piece.as_bytes();
-        match to.write(bytes) {
+    while done <= usize::MAX - PIECE_LEN {
+        let piece = piece_of_line(value, done)?;
+        match to.write(piece.as_bytes()) {
             Ok(0) | Err(_) => return Err(fmt::Error),
-            Ok(count) if count == bytes.len() && !piece.is_cut => return Ok(()),
-            Ok(count) => done = done.checked_add(count).ok_or(fmt::Error)?,
+            Ok(count) if piece.ends_after(count) => return Ok(()),
+            Ok(count) => done += count,
         }
     }
+    // Only a line of almost 2^64 bytes comes to this.
+    Err(fmt::Error)
 }
