@@ -1,5 +1,5 @@
 -- A fault at a place in a text. A text is its bytes.
-use Rattle.std.specs.Prelude.{◌≡◌, ◌==◌, ◌+◌, ◌++◌, ⊤, Bool, ℕ, List, Option, None, Some, chars, codes, count_by, drop, length, string_bytes, take}
+use Rattle.std.specs.Prelude.{◌≡◌, ◌==◌, ◌+◌, ◌++◌, ⊤, Bool, ℕ, List, Option, None, Some, chars, codes, count_by, drop, not, string_bytes, take}
 use Rattle.std.specs.List.{after_last, before_first}
 use Rattle.std.specs.Str.{IsCharBoundary, byte}
 use Rattle.humantime_settings.specs.declared.error.Marked.{Marked}
@@ -40,9 +40,13 @@ abbrev pub line_of : SettingsError → Option ℕ
 line_of (At marked) = Some marked.line
 line_of _ = None
 
--- The column of an error that has a place, in characters from 1.
+-- The columns of a line: its characters, but for a byte order mark.
+abbrev pub columns : List ℕ → ℕ
+columns line = count_by (λ c. not (c == 65279)) (chars line)
+
+-- The column of an error that has a place, from 1.
 abbrev pub column_of : SettingsError → Option ℕ
-column_of (At marked) = Some (length (chars (string_bytes marked.before)) + 1)
+column_of (At marked) = Some (columns (string_bytes marked.before) + 1)
 column_of _ = None
 
 -- What an error says, without the place.

@@ -1,8 +1,8 @@
 //! The error of settings, and its position in a string.
 
-ghost use Rattle.std.specs.Prelude.{◌≡◌, ◌+◌, IfOk, chars, count_by, length, string_bytes};
+ghost use Rattle.std.specs.Prelude.{◌≡◌, ◌+◌, IfOk, count_by, string_bytes};
 ghost use Rattle.std.specs.List.{after_last, before_first};
-ghost use Rattle.humantime_settings.specs.Marks.{IsMarkedIn, column_of, is_line_feed, line_of, message_of};
+ghost use Rattle.humantime_settings.specs.Marks.{IsMarkedIn, column_of, columns, is_line_feed, line_of, message_of};
 ghost use Rattle.humantime_settings.specs.declared.error.SettingsError.TheVariants.{OutOfMemory};
 
 use crate::faults::Fault;
@@ -141,7 +141,7 @@ pub struct Marked {
 }
 
 impl Marked {
-    /// Returns the column of the error, in characters from 1.
+    /// Returns the column of the error, in characters from 1, of which a byte order mark is none.
     ///
     /// # Examples
     ///
@@ -154,9 +154,10 @@ impl Marked {
     /// ```
     #[tactic(auto, using(std::proofs::lemmas::Str::chars_from_encodes))]
     pub fn column(&self) -> usize
-        ensures { result ≡ length (chars (string_bytes self.now.before)) + 1 }
+        ensures { result ≡ columns (string_bytes self.now.before) + 1 }
     {
-        self.before.as_str().chars().count() + 1
+        let line = self.before.as_str();
+        line.chars().filter(|c| *c != '\u{feff}').count() + 1
     }
 }
 
@@ -168,16 +169,19 @@ impl From<AllocError> for SettingsError {
     }
 }
 
-/// The greatest length of a line that is shown, in bytes.
+/// The greatest length of a line that is shown whole, in bytes.
 const LONG: usize = 500;
+
+/// The greatest length of each of the three parts of a longer line that is shown.
+const CUT: usize = 100;
 
 /// The greatest length of such a line with its escapes: that of a byte has at most six.
 const LONG_ESCAPED: usize = 3000;
 
-/// Writes the message. An error at a position begins with its line and column and, unless the line has over 500 bytes, ends with
-/// the line and a caret line: `^` under each column of what is wrong, or one where only the position is known. A control
-/// character of the line or the message, but for a tab, is written as an escape such as `\u{1b}`, so that none of them
-/// controls a terminal.
+/// Writes the message. An error at a position begins with its line and column, and ends with the line and a caret line: `^` under each
+/// column of what is wrong, or one where only the position is known. Of a line with over 500 bytes, what is around the position is written,
+/// with dots where it is cut. A character that controls a terminal or the direction of its text, but for a tab, is written as an escape
+/// such as `\u{1b}`.
 ///
 /// # Examples
 ///
@@ -203,18 +207,42 @@ impl fmt::Display for SettingsError {
             fault.line,
             fault.column()
         )?;
-        let (before, marked) = (fault.before.as_str(), fault.marked.as_str());
         let after = fault.after.trim_end_matches('\r');
+        let (before, marked) = (fault.before.as_str(), fault.marked.as_str());
         let len = before.len().saturating_add(marked.len());
-        if len.saturating_add(after.len()) > LONG {
-            return Ok(());
-        }
+        let is_long = len.saturating_add(after.len()) > LONG;
+        let most = if is_long { CUT } else { LONG };
+        let (front, before) = end_of(before, most);
+        let (part, cut) = start_of(marked, most);
+        let (after, back) = if cut.is_empty() {
+            start_of(after, most)
+        } else {
+            ("", cut)
+        };
+        let blank = if front.is_empty() { "" } else { "   " };
         let before = InlineText::<LONG_ESCAPED>::of(Escaped(before));
-        let marked = InlineText::<LONG_ESCAPED>::of(Escaped(marked));
+        let marked = InlineText::<LONG_ESCAPED>::of(Escaped(part));
         let (before, part) = (before.as_str(), marked.as_str());
         let mark = Underline { before, part };
-        write!(f, "\n{before}{part}{}\n{mark}", Escaped(after))
+        write!(
+            f,
+            "\n{front}{before}{part}{}{back}\n{blank}{mark}",
+            Escaped(after)
+        )
     }
+}
+
+/// Returns the end of a string, and before it dots, if that is not all.
+fn end_of(text: &str, most: usize) -> (&str, &str) {
+    let cut = text.len().saturating_sub(most);
+    let (_, end) = text.split_at(text.floor_char_boundary(cut));
+    (if cut > 0 { "..." } else { "" }, end)
+}
+
+/// Returns the start of a string, and dots, if that is not all.
+fn start_of(text: &str, most: usize) -> (&str, &str) {
+    let (start, rest) = text.split_at(text.floor_char_boundary(most));
+    (start, if rest.is_empty() { "" } else { "..." })
 }
 
 /// A string that is written with an escape in place of each character that is not to reach a terminal.
@@ -224,13 +252,23 @@ struct Escaped<'a>(&'a str);
 impl fmt::Display for Escaped<'_> {
     fn fmt<W: fmt::Write>(&self, f: &mut fmt::Formatter<W>) -> fmt::Result {
         for c in self.0.chars() {
-            if c != '\t' && c.is_control() {
+            if is_hidden(c) {
                 write!(f, "\\u{{{:x}}}", c as u32)?;
             } else {
                 f.write_char(c)?;
             }
         }
         Ok(())
+    }
+}
+
+/// Returns `true` for a character that controls a terminal, except for a tab, or the direction of its text.
+fn is_hidden(c: char) -> bool {
+    match c {
+        '\t' => false,
+        '\u{61c}' | '\u{200e}' | '\u{200f}' | '\u{2028}'..='\u{202e}' | '\u{2066}'..='\u{2069}' =>
+            true,
+        _ => c.is_control(),
     }
 }
 

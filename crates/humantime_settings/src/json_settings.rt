@@ -10,6 +10,7 @@ ghost use Rattle.humantime_settings.specs.Marks.{IsErrorIn};
 use crate::error::{SettingsError, marked_at};
 use crate::faults::Fault;
 use crate::json_positions::found_at;
+use crate::json_syntax::syntax_error;
 use crate::rejection::{Cause, Part, Rejection, fault_at};
 use crate::trace::Traced;
 use json::Scratch;
@@ -24,7 +25,8 @@ use std::alloc::{AllocError, Global};
 ///
 /// - in a string that is no duration or timestamp: what is wrong in it;
 /// - of another wrong value, of an unknown key or of a duplicate one: its start;
-/// - of a missing key: the end of its object.
+/// - of a missing key: the end of its object;
+/// - of a text that is not JSON: where it stops being JSON.
 ///
 /// # Examples
 ///
@@ -80,21 +82,32 @@ pub fn to_json<T: Serialize>(alloc: Global, value: &T) -> Result<String, Setting
     }
 }
 
-/// Returns the fault of an error in a document.
+/// Returns the fault of a document with this error. What is not JSON has no other.
 fn located<'a, T: Deserialize<'a>>(
     alloc: Global,
     text: &'a str,
     error: &serde_json::Error,
 ) -> Result<Fault, AllocError> {
-    let Some(rejection) = rejection_of::<T>(alloc, text)? else {
-        return Ok(Fault::at(error_offset(text, error), message_of(alloc, error)?));
-    };
+    let mut scratch = Scratch::new(alloc);
+    if !error.is_data() {
+        if let Some((at, message)) = syntax_error(alloc, text, &mut scratch)? {
+            return Ok(Fault::at(at, String::from_str(alloc, message)?));
+        }
+    }
+    match rejection_of::<T>(alloc, text)? {
+        Some(rejection) => rejected(alloc, text, &rejection),
+        None => Ok(Fault::at(error_offset(text, error), message_of(alloc, error)?)),
+    }
+}
+
+/// Returns the fault of a value.
+fn rejected(alloc: Global, text: &str, rejection: &Rejection) -> Result<Fault, AllocError> {
     let mut scratch = Scratch::new(alloc);
     let (at, mut found) = found_at(alloc, text, &rejection.path, rejection.part, &mut scratch)?;
     if matches!(rejection.cause, Cause::Long(_) | Cause::Short) {
         found.len = array_len(alloc, text, &rejection.path)?;
     }
-    fault_at(alloc, text, at, &rejection, &found)
+    fault_at(alloc, text, at, rejection, &found)
 }
 
 /// Returns how many items the array has to which a path leads.

@@ -53,6 +53,7 @@ mod faults;
 mod fields;
 mod json_positions;
 mod json_settings;
+mod json_syntax;
 mod raw_strings;
 mod rejection;
 mod toml_places;

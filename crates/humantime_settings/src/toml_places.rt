@@ -1,6 +1,6 @@
 //! The place in a TOML document to which a path leads.
 
-use std::alloc::Global;
+use std::alloc::{AllocError, Global};
 use toml_parser::text::{first, skip_blank, skip_ws};
 use toml_parser::{ParseError, quoted, starts_string};
 
@@ -176,6 +176,23 @@ impl<'a> Walk<'a> {
             _ => left,
         }
     }
+}
+
+/// Returns the offset of the last part of the header or the key at an offset.
+pub(crate) fn last_part(alloc: Global, document: &str, at: usize) -> Result<usize, AllocError> {
+    let mut part = tail(document, at).trim_start_matches(['[', ' ', '\t']);
+    for _ in 0..document.len() {
+        let next = match name_at(alloc, part) {
+            Ok((_, rest)) => skip_ws(rest),
+            Err(ParseError::OutOfMemory) => return Err(AllocError),
+            Err(ParseError::At(..)) => "",
+        };
+        if first(next) != b'.' {
+            break;
+        }
+        part = skip_ws(tail(next, 1));
+    }
+    Ok(document.len().saturating_sub(part.len()))
 }
 
 /// Returns what is left of a path behind a key.

@@ -7,12 +7,12 @@ ghost use Rattle.humantime_settings.specs.Marks.{IsErrorIn};
 use crate::error::{SettingsError, marked_at};
 use crate::faults::Fault;
 use crate::rejection::{Cause, Found, Part, Rejection, fault_at};
-use crate::toml_places::{Step, place_of};
+use crate::toml_places::{Step, last_part, place_of};
 use crate::trace::Traced;
 use serde::{DeserializeOwned, Kind, Serialize};
 use std::alloc::{AllocError, Global};
 use toml::Value;
-use toml_parser::ParseError;
+use toml_parser::{ErrorKind, ParseError};
 
 /// Reads settings in TOML.
 ///
@@ -22,7 +22,7 @@ use toml_parser::ParseError;
 /// whose keys sort first has the error. The position is
 ///
 /// - in a string or a key that is no duration or timestamp: what is wrong in it;
-/// - of another wrong value, or of an unknown or a duplicate key: its start;
+/// - of another wrong value, or of an unknown or a duplicate key, or the last part of it: its start;
 /// - of a missing key: the start of its table. This is its header or its brace, or the first key that makes it, and of the table at the top
 ///   the start of the document.
 ///
@@ -100,7 +100,11 @@ fn document_error(
     let Some(span) = error.span() else {
         return Ok(SettingsError::OutOfMemory);
     };
-    let fault = Fault::at(span.start, String::from_str(alloc, error.message())?);
+    let mut at = span.start;
+    if error.message() == ErrorKind::DuplicateKey.description() {
+        at = last_part(alloc, text, at)?;
+    }
+    let fault = Fault::at(at, String::from_str(alloc, error.message())?);
     Ok(SettingsError::At(marked_at(alloc, text, fault)?))
 }
 

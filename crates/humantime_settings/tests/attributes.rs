@@ -11,16 +11,8 @@ type Wait = AsText<StdDuration>;
 
 #[derive(Debug, Drop, Deserialize)]
 struct All {
-    server: Option<Server>,
-    inside: Option<Inside>,
-    beside: Option<Beside>,
-    mode: Option<Mode>,
-    either: Option<Either>,
-    eithers: Option<Vec<Either>>,
-    flat: Option<Flat>,
-    sizes: Option<Sizes>,
-    counts: Option<BTreeMap<i64, Wait>>,
-    flags: Option<BTreeMap<u8, bool>>,
+    server: Option<Server>, inside: Option<Inside>, beside: Option<Beside>, mode: Option<Mode>, either: Option<Either>,
+    eithers: Option<Vec<Either>>, flat: Option<Flat>, sizes: Option<Sizes>, counts: Option<BTreeMap<i64, Wait>>, flags: Option<BTreeMap<u8, bool>>,
 }
 
 #[derive(Debug, Drop, Deserialize)]
@@ -34,11 +26,7 @@ struct Server {
     retries: u8,
     #[serde(default, with = "humantime_settings")]
     idle_time: Option<StdDuration>,
-    weight: Option<f32>,
-    is_open: Option<bool>,
-    letter: Option<char>,
-    pair: Option<(u32, u32)>,
-    both: Option<[u8; 2]>,
+    weight: Option<f32>, is_open: Option<bool>, letter: Option<char>, pair: Option<(u32, u32)>, both: Option<[u8; 2]>,
 }
 
 fn three() -> u8 {
@@ -47,60 +35,31 @@ fn three() -> u8 {
 
 #[derive(Debug, Drop, Deserialize)]
 #[serde(tag = "kind", rename_all = "snake_case", rename_all_fields = "kebab-case")]
-enum Inside {
-    OneTime { max_wait: Wait, tries: Option<u8> },
-    Never,
-    #[serde(rename = "many times")]
-    Many { of: Vec<Wait> },
-}
+enum Inside { OneTime { max_wait: Wait, tries: Option<u8> }, Never, #[serde(rename = "many times")] Many { of: Vec<Wait> } }
 
 #[derive(Debug, Drop, Deserialize)]
 #[serde(tag = "kind", content = "of")]
-enum Beside {
-    One(Wait),
-    Many(Vec<Wait>),
-    Named { first: Wait },
-    Nothing,
-}
+enum Beside { One(Wait), Many(Vec<Wait>), Named { first: Wait }, Nothing }
 
 #[derive(Debug, Drop, Deserialize)]
 #[serde(rename_all = "kebab-case")]
-enum Mode {
-    FullSpeed,
-    SlowDown(u32),
-    #[serde(alias = "off")]
-    TurnedOff { since: AsText<SystemTime> },
-}
+enum Mode { FullSpeed, SlowDown(u32), #[serde(alias = "off")] TurnedOff { since: AsText<SystemTime> } }
 
 #[derive(Debug, Drop, Deserialize)]
 #[serde(untagged)]
-enum Either {
-    Wait(Wait),
-    Waits(Vec<Wait>),
-    Count(u32),
-}
+enum Either { Wait(Wait), Waits(Vec<Wait>), Count(u32) }
 
 #[derive(Debug, Drop, Deserialize)]
 #[serde(rename_all = "kebab-case")]
-struct Flat {
-    full_name: String,
-    #[serde(flatten)]
-    limits: Limits,
-}
+struct Flat { full_name: String, #[serde(flatten)] limits: Limits }
 
 #[derive(Debug, Drop, Deserialize)]
 #[serde(rename_all = "camelCase")]
-struct Limits {
-    max_wait: Wait,
-    min_wait: Wait,
-}
+struct Limits { max_wait: Wait, min_wait: Wait }
 
 #[derive(Debug, Drop, Default, Deserialize)]
 #[serde(default)]
-struct Sizes {
-    wait: Wait,
-    size: u32,
-}
+struct Sizes { wait: Wait, size: u32 }
 
 /// A document in TOML, one in JSON, and the message of both. `‸` is where the error begins, and where it ends, if that is known. `FIELDS` and
 /// the like are names.
@@ -109,6 +68,7 @@ const WRONG: &[(&str, &str, &str)] = &[
     ("[server]\n‸max_age = '1s'", r#"{"server":{‸"max_age":"1s"}}"#, "unknown field `max_age`, expected one of FIELDS"),
     ("[server]\n‸address = ''", r#"{"server":{ ‸"address" : ""}}"#, "unknown field `address`, expected one of FIELDS"),
     ("server.max-age = '1s'\nserver.‸listen.on = ''", r#"{"server":{"max-age":"1s",‸"listen":{"on":""}}}"#, "unknown field `listen`, expected one of FIELDS"),
+    ("server.‸'kkkkkkkkkkkkkkkkkkkkkkkkkkkkkkkkkkkkkkkkkkkkkkkkkkkkkkkkkkkkkkkkkkkkkk.kkkkkkkkkkkkkkkkkkkkkkkkkkkkkk' = 1", r#"{"server":{‸"kkkkkkkkkkkkkkkkkkkkkkkkkkkkkkkkkkkkkkkkkkkkkkkkkkkkkkkkkkkkkkkkkkkkkk.kkkkkkkkkkkkkkkkkkkkkkkkkkkkkk":1}}"#, "unknown field `kkkkkkkkkkkkkkkkkkkkkkkkkkkkkkkkkkkkkkkkkkkkkkkkkkkkkkkkkkkkkkkkkkkkkk.kkkkkkkkkkkkkkkkkkkkkkkkkkkkkk`, expected one of FIELDS"),
     ("[server.‸wiat]\n", r#"{"server":{‸"wiat":{}}}"#, "unknown field `wiat`, expected one of FIELDS"),
     ("‸[server]\n'listen.on' = ''\n", r#"{"server":{"listen.on":""‸}}"#, "missing field `max-age`"),
     ("server = ‸{ max-age = '1s' }", r#"{"server":{"max-age":"1s"‸}}"#, "missing field `listen.on`"),
@@ -224,6 +184,23 @@ fn wrong_values(rt: HostRuntime) -> Result<(), Fail> {
         }
         assert_marked(&rt, |alloc, text| from_toml::<All>(alloc, text).err(), toml, &wanted)?;
         assert_marked(&rt, |alloc, text| from_json::<All>(alloc, text).err(), json, &wanted)?;
+    }
+    Ok(())
+}
+
+/// A value that borrows from JSON.
+#[derive(Debug, Drop, Deserialize)]
+struct Lent<'a> { name: &'a str, wait: Wait }
+
+#[test]
+fn wrong_values_behind_borrowed_ones(rt: HostRuntime) -> Result<(), Fail> {
+    for (json, message) in [
+        (r#"{"name":"a","wait":‸5}"#, "expected a duration in quotes"),
+        (r#"{"name":"a"‸}"#, "missing field `wait`"),
+        (r#"{"name":‸"a\n","wait":"1s"}"#, r#"invalid type: string "a\n", expected a borrowed string"#),
+        (r#"{"name":‸1}"#, "invalid type: integer `1`, expected a borrowed string"),
+    ] {
+        assert_marked(&rt, |alloc, text| from_json::<Lent>(alloc, text).err(), json, message)?;
     }
     Ok(())
 }

@@ -69,3 +69,11 @@ fn type_in_toml(rt: HostRuntime) {
     let wanted = "line 1, column 16: expected a duration in quotes\nwaits = ['1s', 2]\n               ^";
     assert_answers(&rt, &[(toml_to_json, "waits = ['1s', 2]\n[ends]\n", wanted)]);
 }
+
+#[test]
+fn names(rt: HostRuntime) {
+    let ends = "line 1, column 11: missing field `waits`\n{\"ends\":{}}\n          ^";
+    let syntax = "line 1, column 10: expected value\n{\"waits\":}\n         ^";
+    let read: fn(Global, &str) -> Answer = |alloc, text| to_json(alloc, &from_json::<Lists>(alloc, text)?);
+    assert_answers(&rt, &[(read, "{\"ends\":{}}", ends), (read, "{\"waits\":}", syntax)]);
+}
