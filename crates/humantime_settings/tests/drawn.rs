@@ -1,11 +1,54 @@
-//! Drawn documents with at most one wrong value each: what is marked is what was put as wrong.
+//! Drawn documents with at most one error each: it is found where it was put.
 
-use crate::marks::Table;
-use humantime_settings::{SettingsError, from_json, from_toml};
+use humantime::{StdDuration, SystemTime};
+use humantime_settings::{AsText, SettingsError, from_json, from_toml};
+use serde::Deserialize;
 use std::alloc::{AllocError, Global};
-use std::ops::RangeInclusive;
+use std::collections::BTreeMap;
 use std::process::Abort;
 use std::test::Fail;
+
+type Wait = AsText<StdDuration>;
+
+/// The document, or a table in it.
+#[derive(Debug, Drop, Deserialize)]
+#[serde(recursive)]
+struct Table {
+    wait: Option<Wait>,
+    since: Option<AsText<SystemTime>>,
+    list: Option<Vec<Wait>>,
+    grid: Option<Vec<Vec<Wait>>>,
+    named: Option<BTreeMap<String, Wait>>,
+    #[serde(rename = "a.b")]
+    dotted: Option<Wait>,
+    a: Option<BTreeMap<String, Wait>>,
+    job: Option<Job>,
+    tasks: Option<Vec<Task>>,
+    #[serde(recursive)]
+    one: Option<Box<Table>>,
+    #[serde(default, recursive)]
+    many: Vec<Table>,
+}
+
+#[derive(Debug, Drop, Deserialize)]
+#[serde(deny_unknown_fields, rename_all = "kebab-case")]
+struct Job {
+    max_age: Wait,
+    count: u8,
+}
+
+#[derive(Debug, Drop, Deserialize)]
+#[serde(tag = "kind")]
+enum Task {
+    Every { wait: Wait },
+    Never,
+}
+
+/// What is wrong in a document: the name of a part, and that of a wrong one in its place.
+const KINDS: [(&str, &str); 10] = [
+    ("value", "wrong value"), ("value", "wrong value"), ("value", "wrong value"), ("time", "wrong time"), ("number", "wrong number"),
+    ("tag", "wrong tag"), ("fields", "wrong fields"), ("job", "wrong job"), (",", "wrong ,"), ("=", "wrong ="),
+];
 
 /// Names, and the texts of which each stands for one. In a text, angle brackets have a name or, behind a single quote, a key or, behind a
 /// double quote, the text of a string.
@@ -18,12 +61,29 @@ const BOTH: Parts = &[
     ("values", &["[<_>]", "[<_><value><]>", "[<_><value><,><value><]>", "[<_><value><,><value><,><value><]>"]),
     ("grid", &["<'grid><=>[<_>]", "<'grid><=>[<_><values><]>", "<'grid><=>[<_><values><,><values><]>"]),
     ("named", &["<'named><=>{<_><'x><=><value><,><name><=><value><_>}"]),
-    ("pairs", &["<last>", "<skip><,><wait><,><last>", "<wait><,><list><,><last>", "<skip><,><grid><,><since>", "<named><,><wait><,><last>"]),
+    ("pairs", &[
+        "<last>", "<skip><,><wait><,><last>", "<wait><,><list><,><job>", "<skip><,><grid><,><since>", "<named><,><wait><,><last>", "<job><,><tasks>",
+        "<tasks><,><job><,><wait>",
+    ]),
+    ("job", &["<'job><=>{<_><fields><_>}"]),
+    ("fields", &["<'count><=><number><,><'max-age><=><value>", "<'max-age><=><value><,><'count><=><number>"]),
+    ("number", &["7", "0", "255"]),
+    ("tasks", &["<'tasks><=>[<_><task><]>", "<'tasks><=>[<_><task><,><task><]>"]),
+    ("task", &["{<_><'kind><=><tag><,><'wait><=><value><_>}", "{<_><'wait><=><value><,><'kind><=><tag><_>}"]),
+    ("tag", &["<\"Every>"]),
     ("one", &["<'one><=>{<_><pairs><_>}"]),
     ("many", &["<'many><=>[<_>]", "<'many><=>[<_>{<_><pairs><_>}<]>", "<'many><=>[<_>{<_><pairs><_>}<,>{<_><pairs><_>}<]>"]),
     ("value", &["<\"1s>", "<\"2h 5m>", "<\"1\ts>", "<\"\u{3000}1h\n2s >"]),
     ("time", &["<\"2018-02-14 00:28:07>", "<\"2018-02-14T00:28:07.5Z>"]),
-    // A mark begins and ends at `^`. One that ends where it begins has only one.
+    // An error begins and ends at `^`. One that ends where it begins has only one.
+    ("wrong number", &["^256", "^-1", "^1.5", "^true", "^<\"7>", "^[<_>7<_>]"]),
+    ("wrong tag", &["^<\"every>", "^<\"Never2>", "^7", "^[]"]),
+    ("wrong fields", &[
+        "<'max-age><=><value><,>^\"wiat\"<=>7<,><'count><=><number>", "<'count><=><number><,>^\"max_age\"<=><value><,><'max-age><=><value>",
+        "<'count><=><number><,><'max-age><=><value><,>^\"count\"<=><number>", "<'max-age><=><value><,>^\"max-age\"<=><value>",
+    ]),
+    ("wrong ,", &["<blank>^"]),
+    ("blank", &[" ", "\n", "\t "]),
     ("wrong value", &["<wrong text>", "<wrong text>", "<wrong text>", "<no text>"]),
     ("wrong text", &[
         "<\"^>", "<\"^~^>", "<\"5µs ^~^>", "<\"1s 2^>", "<\"1^x^ 2s>", "<\" 2h 5^~^>", "<\"\u{3000}2h\t5^~^>", "<\"1h ^#^[ >", "<\"1s ^\\^>",
@@ -47,8 +107,10 @@ const JSON: Parts = &[
     // Keys with escapes, and with what they do not end at.
     ("name", &[r#""\"""#, r#""z\ty""#, r#""\u007a\\""#, r#""}""#]),
     ("no text", &["^7", "^-2.5e3", "^true", "^[<_><\"1s><_>]", "^[]", "^{}"]),
+    ("wrong job", &["<'job><=>{<_><'count><=>7<_>^}", "<'job><=>{<_><'max-age><=><value><_>^}", "<'job><=>{<_>^}", "<'job><=>^7"]),
     ("_", &["", " ", "\n", "\r\n\t"]),
     ("=", &["<_>:<_>"]),
+    ("wrong =", &["<_>^=<_>", "<blank>^", "<_>:<_>^:", "<_>:<_>^,"]),
     (",", &["<_>,<_>"]),
     ("]", &["<_>]"]),
 ];
@@ -63,7 +125,7 @@ const TOML: Parts = &[
     ("item", &["[[many]]<end><lines><end>", "[[ 'many' ]]<end><lines><end>", "\t[[\"many\"]]<end><lines><end>"]),
     ("lines", &[
         "<last>", "<skip><end><wait><end><last>", "<wait><end><list><end><last>", "<skip><end><grid><end><since>", "<named><end><wait><end><last>",
-        "named.<'x><=><value><end><list><end>'named' . <'y z><=><value><end><last>",
+        "named.<'x><=><value><end><list><end>'named' . <'y z><=><value><end><last>", "<job><end><tasks><end><last>", "<tasks><end><job>",
     ]),
     ("named", &["<'named><=>{<_><'x><=><value><,><name><=><value><_>}", "named.<'x><=><value>", "\"named\" . <'y z><=><value>"]),
     ("skip", &["skip = [1, ']', { wait = '1~', b = [ 2, \"[\" ] }, 1979-05-27]", "skip.wait = '1~'", "skip = \"\"\"\nwait = '1~'\n\"\"\""]),
@@ -73,7 +135,11 @@ const TOML: Parts = &[
         "^7", "^0x1F", "^-2.5e3", "^inf", "^true", "^1979-05-27 07:32:00Z", "^07:32:00", "^[<_><\"1s><_>]", "^[]", "^{}", "^{ a = <\"1s> }",
     ]),
     ("_", &["", " ", "\n", " # ]\n\t"]),
+    ("wrong job", &["<'job><=>^{<_><'count><=>7<_>}", "<'job><=>^{<_><'max-age><=><value><_>}", "<'job><=>^{<_>}", "<'job><=>^7"]),
     ("=", &["=", " = ", "\t= "]),
+    ("wrong =", &["<tab>^: ", "^~", "<is>^=", "<is>^, "]),
+    ("tab", &[" ", "\t"]),
+    ("is", &["=", " = "]),
     (",", &[",", " , ", ", # '~' ]\n", ",\r\n\t"]),
     ("]", &["]", " ,\n]", "<_>]"]),
     // What follows a value outside brackets.
@@ -106,9 +172,10 @@ struct Draw {
     state: u64,
     is_json: bool,
     text: String,
-    /// The number of the wrong value among those that are still to be put, from 1. None has the number 0.
+    /// The part that is wrong, and its number among those that are still to be put, from 1. None has the number 0.
+    kind: (&'static str, &'static str),
     wrong: usize,
-    /// Where what is wrong begins, and where it ends.
+    /// Where the error begins, and where it ends.
     marks: Vec<usize>,
 }
 
@@ -144,15 +211,11 @@ impl Draw {
         Ok(())
     }
 
-    /// Returns one of the texts of a name, or of that of a wrong value in the place of the one that is to be wrong.
+    /// Returns one of the texts of a name, or one that is wrong in the place of the one that is to be wrong.
     fn text_of(&mut self, name: &'static str) -> &'static str {
-        let is_value = matches!(name, "value" | "time");
-        self.wrong = self.wrong.wrapping_sub(is_value as usize);
-        let name = match (is_value && self.wrong == 0, name) {
-            (true, "value") => "wrong value",
-            (true, _) => "wrong time",
-            _ => name,
-        };
+        let (part, wrong) = self.kind;
+        self.wrong = self.wrong.wrapping_sub((name == part) as usize);
+        let name = if name == part && self.wrong == 0 { wrong } else { name };
         self.one_of(if self.is_json { JSON } else { TOML }, BOTH, name)
     }
 
@@ -172,7 +235,7 @@ impl Draw {
             0 => format!(in alloc; "\"{key}\"")?,
             1 => format!(in alloc; "\"\\u{:04x}{}\"", key.as_bytes()[0], &key[1..])?,
             2 if is_bare => format!(in alloc; "{key}")?,
-            3 if is_bare => format!(in alloc; "\t{key} ")?,
+            3 if is_bare && self.marks.last() != Some(&self.text.len()) => format!(in alloc; "\t{key} ")?,
             _ => format!(in alloc; "'{key}'")?,
         };
         self.text.push_str(&key)
@@ -216,12 +279,14 @@ impl Draw {
     }
 }
 
-/// Draws documents, and asserts that each has its mark, or no error without a wrong value.
-fn assert_marked(rt: &(impl Abort + AllocGlobal), is_json: bool, seeds: RangeInclusive<u64>) -> Result<(), Fail> {
-    let alloc = rt.alloc();
-    for seed in seeds {
-        let mut draw = Draw { state: seed * 0x9E37_79B9, is_json, text: String::new(alloc), wrong: 0, marks: Vec::new(alloc) };
-        draw.wrong = draw.below(6);
+/// Draws documents until this number have an error, and asserts that each of these has it, and that the others have none.
+fn assert_found(rt: &(impl Abort + AllocGlobal), is_json: bool, count: usize) -> Result<(), Fail> {
+    let (alloc, mut wrong, mut seed) = (rt.alloc(), 0, 0_u64);
+    while wrong < count {
+        seed += 1;
+        let mut draw = Draw { state: seed * 0x9E37_79B9, is_json, text: String::new(alloc), kind: ("", ""), wrong: 0, marks: Vec::new(alloc) };
+        draw.kind = KINDS[draw.below(KINDS.len())];
+        draw.wrong = draw.below(4);
         draw.put("document")?;
         let text = draw.text.as_str();
         let error = if is_json { from_json::<Table>(alloc, text).err() } else { from_toml::<Table>(alloc, text).err() };
@@ -229,22 +294,23 @@ fn assert_marked(rt: &(impl Abort + AllocGlobal), is_json: bool, seeds: RangeInc
             assert!(rt; error.is_none(), "{error:?} {text}");
             continue;
         };
+        wrong += 1;
         let Some(SettingsError::At(fault)) = error else {
             panic!(rt; "{error:?} {text}");
         };
-        // A mark ends with its line.
+        // The part that is marked ends with its line.
         let marked = text[*start..*end].lines().next().unwrap_or("");
-        assert_eq!(rt; (fault.at, fault.marked.as_str()), (*start, marked), "{text}");
+        assert_eq!(rt; (fault.at, fault.marked.as_str()), (*start, marked), "{} {text}", draw.kind.1);
     }
     Ok(())
 }
 
 #[test]
 fn drawn_documents_in_json(rt: HostRuntime) -> Result<(), Fail> {
-    assert_marked(&rt, true, 1..=400)
+    assert_found(&rt, true, 1000)
 }
 
 #[test]
 fn drawn_documents_in_toml(rt: HostRuntime) -> Result<(), Fail> {
-    assert_marked(&rt, false, 1..=300)
+    assert_found(&rt, false, 1000)
 }

@@ -4,7 +4,6 @@
 mod attributes;
 mod drawn;
 mod faults;
-mod marks;
 mod refused;
 pub(crate) mod support;
 mod toml_keys;
