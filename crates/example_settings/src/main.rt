@@ -1,7 +1,20 @@
 //! Checks a settings file and prints it with canonical strings: `example_settings FILE`, with a file in TOML.
 //!
 //! The exit status is 0 if the settings are valid, 2 unless there is exactly one argument, and 1 for any other error. If the settings have
-//! an error, standard error has the name of the file, the line, the column, what is wrong, and the line with a caret under the error.
+//! an error, standard error has the name of the file, the line, the column, what is wrong, and the line with a caret under the error. A wrong
+//! string, a misspelled key and a wrong tag:
+//!
+//! ```text
+//! settings.toml: line 3, column 24: time unit needed, for example 60sec or 60ms
+//! retries = ['500ms', '60']
+//!                        ^
+//! settings.toml: line 6, column 1: unknown field `evry`, expected one of `every`, `since`, `keep`, `target`
+//! evry = '36h'
+//! ^
+//! settings.toml: line 9, column 19: unknown variant `sever`, expected `directory` or `server`
+//! target = { kind = 'sever', address = '10.0.0.7', timeout = '5s' }
+//!                   ^
+//! ```
 #![tactic(auto)]
 
 use humantime::{Duration, StdDuration, SystemTime};
@@ -40,6 +53,21 @@ struct Backup {
     /// How long a backup is kept: for ever, if there is no such line.
     #[serde(default, with = "humantime_settings")]
     keep: Option<Duration>,
+    target: Target,
+}
+
+/// Where backups are kept.
+#[derive(Drop, Serialize, Deserialize)]
+#[serde(tag = "kind", rename_all = "lowercase")]
+enum Target {
+    Directory {
+        path: String,
+    },
+    Server {
+        address: String,
+        #[serde(with = "humantime_settings")]
+        timeout: StdDuration,
+    },
 }
 
 /// Returns settings with canonical strings.

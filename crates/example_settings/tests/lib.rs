@@ -1,22 +1,52 @@
-//! Settings that are right and wrong, with all that is written.
+//! Settings that are right, and with a wrong string, a misspelled key and a wrong tag, with all that is written.
 #![tactic(auto)]
 
 use example_settings::run;
 use std::process::ExitCode;
 use std::test::Fail;
 
-const REST: &str = "retries = ['60s']\nbackup = { every = '36h', since = '2018-02-14 00:28:07' }\nbreaks = {}\n";
+const SETTINGS: &str = "# 90 seconds
+timeout = '1.5min'
+retries = ['500ms', '60s']
+
+[backup]
+every = '36h'
+since = '2018-02-14 00:28:07'
+keep = '2weeks'
+target = { kind = 'server', address = '10.0.0.7', timeout = '5s' }
+
+[breaks]
+";
+
+const CANONICAL: &str = "timeout = \"1m 30s\"
+retries = [\"500ms\", \"1m\"]
+
+[backup]
+every = \"1day 12h\"
+since = \"2018-02-14T00:28:07Z\"
+keep = \"14days\"
+
+[backup.target]
+kind = \"server\"
+address = \"10.0.0.7\"
+timeout = \"5s\"
+
+[breaks]
+";
 
 #[test]
 fn settings_or_the_error_are_written(rt: HostRuntime) -> Result<(), Fail> {
-    for (first, is_right, out_text, err_text) in &[
-        ("timeout = '1.5min'\n", true, "timeout = \"1m 30s\"\nretries = [\"1m\"]\n\n[backup]\nevery = \"1day 12h\"\nsince = \"2018-02-14T00:28:07Z\"\n\n[breaks]\n", ""),
-        ("timeout = '5µs x'\n", false, "", "a.toml: line 1, column 16: expected number at 5\ntimeout = '5µs x'\n               ^\n"),
+    for (right, wrong, out_text, err_text) in &[
+        ("60s", "60s", CANONICAL, ""),
+        ("60s", "60", "", "a.toml: line 3, column 24: time unit needed, for example 60sec or 60ms\nretries = ['500ms', '60']\n                       ^\n"),
+        ("every", "evry", "", "a.toml: line 6, column 1: unknown field `evry`, expected one of `every`, `since`, `keep`, `target`\nevry = '36h'\n^\n"),
+        ("server", "sever", "", "a.toml: line 9, column 19: unknown variant `sever`, expected `directory` or `server`\ntarget = { kind = 'sever', address = '10.0.0.7', timeout = '5s' }\n                  ^\n"),
+        ("'5s'", "5", "", "a.toml: line 9, column 61: expected a duration in quotes\ntarget = { kind = 'server', address = '10.0.0.7', timeout = 5 }\n                                                            ^\n"),
     ] {
         let (mut out, mut err) = (Vec::new(rt.alloc()), Vec::new(rt.alloc()));
-        let text = format!(in rt.alloc(); "{first}{REST}")?;
+        let text = SETTINGS.replace(rt.alloc(), *right, *wrong)?;
         let status = run(rt.alloc(), "a.toml", &text, &mut out, &mut err)?;
-        assert!(rt; status == if *is_right { ExitCode::SUCCESS } else { ExitCode::FAILURE });
+        assert!(rt; status == if err_text.is_empty() { ExitCode::SUCCESS } else { ExitCode::FAILURE });
         assert_eq!(rt; String::from_utf8(out)?.as_str(), *out_text);
         assert_eq!(rt; String::from_utf8(err)?.as_str(), *err_text);
     }
