@@ -1,2 +1,2 @@
-pub mod Marks
+pub mod Positions
 pub mod Texts

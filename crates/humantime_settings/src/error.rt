@@ -2,10 +2,10 @@
 
 ghost use Rattle.std.specs.Prelude.{◌≡◌, ◌+◌, IfOk, count_by, string_bytes};
 ghost use Rattle.std.specs.List.{after_last, before_first};
-ghost use Rattle.humantime_settings.specs.Marks.{IsMarkedIn, column_of, columns, is_line_feed, line_of, message_of};
+ghost use Rattle.humantime_settings.specs.Positions.{IsPositionIn, column_of, columns, is_line_feed, line_of, message_of};
 ghost use Rattle.humantime_settings.specs.declared.error.SettingsError.TheVariants.{OutOfMemory};
 
-use crate::faults::Fault;
+use crate::error_range::ErrorRange;
 use humantime_std::located::Underline;
 use std::alloc::{AllocError, Global};
 use std::error::Error;
@@ -23,19 +23,19 @@ use std::fmt::{self, InlineText};
 /// let text = String::from_str(rt.alloc(), "first = '1s'\nsecond = '90'\n")?;
 /// let read = from_toml::<BTreeMap<String, AsText<StdDuration>>>(rt.alloc(), &text);
 /// drop(text);
-/// let Err(SettingsError::At(fault)) = read else {
+/// let Err(SettingsError::At(error)) = read else {
 ///     panic!(rt; "{read:?}");
 /// };
-/// assert_eq!(rt; fault.message.as_str(), "time unit needed, for example 90sec or 90ms");
+/// assert_eq!(rt; error.message.as_str(), "time unit needed, for example 90sec or 90ms");
 /// ```
 #[derive(Debug, Drop, PartialEq, Eq)]
 pub enum SettingsError {
     /// An allocation failed.
     OutOfMemory,
     /// An error at a position of a document.
-    At(Marked),
+    At(ErrorAt),
     /// The message of an error without a position: that of a value that cannot be written.
-    Whole(String),
+    WithoutPosition(String),
 }
 
 impl SettingsError {
@@ -54,7 +54,7 @@ impl SettingsError {
         ensures { result ≡ line_of self.now }
     {
         match self {
-            SettingsError::At(fault) => Some(fault.line),
+            SettingsError::At(error) => Some(error.line),
             _ => None,
         }
     }
@@ -75,7 +75,7 @@ impl SettingsError {
         ensures { result ≡ column_of self.now }
     {
         match self {
-            SettingsError::At(fault) => Some(fault.column()),
+            SettingsError::At(error) => Some(error.column()),
             _ => None,
         }
     }
@@ -97,13 +97,13 @@ impl SettingsError {
     {
         match self {
             SettingsError::OutOfMemory => "out of memory",
-            SettingsError::At(fault) => fault.message.as_str(),
-            SettingsError::Whole(message) => message.as_str(),
+            SettingsError::At(error) => error.message.as_str(),
+            SettingsError::WithoutPosition(message) => message.as_str(),
         }
     }
 }
 
-/// An error at a position in a string, with the line that has it in three parts: `before`, `marked` and `after`.
+/// An error at a position in a string, with the line that has it in three parts: `before`, `part` and `after`.
 ///
 /// A later version may add fields.
 ///
@@ -115,32 +115,32 @@ impl SettingsError {
 ///
 /// let text = "[\n  \"1s\", \"5µs 2parsecs\"\n]";
 /// let read = from_json::<Vec<AsText<StdDuration>>>(rt.alloc(), text);
-/// let Err(SettingsError::At(fault)) = read else {
+/// let Err(SettingsError::At(error)) = read else {
 ///     panic!(rt; "{read:?}");
 /// };
-/// assert_eq!(rt; (fault.at, fault.line, fault.column()), (17, 2, 15));
-/// assert_eq!(rt; fault.before.as_str(), "  \"1s\", \"5µs 2");
-/// assert_eq!(rt; (fault.marked.as_str(), fault.after.as_str()), ("parsecs", "\""));
-/// assert!(rt; fault.message.starts_with("unknown time unit"));
+/// assert_eq!(rt; (error.offset, error.line, error.column()), (17, 2, 15));
+/// assert_eq!(rt; error.before.as_str(), "  \"1s\", \"5µs 2");
+/// assert_eq!(rt; (error.part.as_str(), error.after.as_str()), ("parsecs", "\""));
+/// assert!(rt; error.message.starts_with("unknown time unit"));
 /// ```
 #[derive(Debug, Drop, PartialEq, Eq)]
 #[non_exhaustive]
-pub struct Marked {
+pub struct ErrorAt {
     /// The byte offset in the string.
-    pub at: usize,
+    pub offset: usize,
     /// The line number, from 1.
     pub line: usize,
     /// The line up to the error.
     pub before: String,
     /// The part of the line that is wrong. It is empty if something is missing there, or if only the start of the error is known.
-    pub marked: String,
+    pub part: String,
     /// The line after this part.
     pub after: String,
     /// What is wrong.
     pub message: String,
 }
 
-impl Marked {
+impl ErrorAt {
     /// Returns the column of the error, in characters from 1, of which a byte order mark is none.
     ///
     /// # Examples
@@ -150,7 +150,7 @@ impl Marked {
     /// use humantime_settings::{AsText, SettingsError, from_json};
     ///
     /// let read = from_json::<AsText<StdDuration>>(rt.alloc(), "\"5µs x\"");
-    /// assert!(rt; matches!(&read, Err(SettingsError::At(fault)) if fault.column() == 6));
+    /// assert!(rt; matches!(&read, Err(SettingsError::At(error)) if error.column() == 6));
     /// ```
     #[tactic(auto, using(std::proofs::lemmas::Str::chars_from_encodes))]
     pub fn column(&self) -> usize
@@ -198,22 +198,22 @@ const LONG_ESCAPED: usize = 3000;
 impl fmt::Display for SettingsError {
     fn fmt<W: fmt::Write>(&self, f: &mut fmt::Formatter<W>) -> fmt::Result {
         let message = Escaped(self.message());
-        let SettingsError::At(fault) = self else {
+        let SettingsError::At(error) = self else {
             return write!(f, "{message}");
         };
         write!(
             f,
             "line {}, column {}: {message}",
-            fault.line,
-            fault.column()
+            error.line,
+            error.column()
         )?;
-        let after = fault.after.trim_end_matches('\r');
-        let (before, marked) = (fault.before.as_str(), fault.marked.as_str());
-        let len = before.len().saturating_add(marked.len());
+        let after = error.after.trim_end_matches('\r');
+        let (before, part) = (error.before.as_str(), error.part.as_str());
+        let len = before.len().saturating_add(part.len());
         let is_long = len.saturating_add(after.len()) > LONG;
         let most = if is_long { CUT } else { LONG };
         let (front, before) = end_of(before, most);
-        let (part, cut) = start_of(marked, most);
+        let (part, cut) = start_of(part, most);
         let (after, back) = if cut.is_empty() {
             start_of(after, most)
         } else {
@@ -221,12 +221,12 @@ impl fmt::Display for SettingsError {
         };
         let blank = if front.is_empty() { "" } else { "   " };
         let before = InlineText::<LONG_ESCAPED>::of(Escaped(before));
-        let marked = InlineText::<LONG_ESCAPED>::of(Escaped(part));
-        let (before, part) = (before.as_str(), marked.as_str());
-        let mark = Underline { before, part };
+        let shown = InlineText::<LONG_ESCAPED>::of(Escaped(part));
+        let (before, part) = (before.as_str(), shown.as_str());
+        let carets = Underline { before, part };
         write!(
             f,
-            "\n{front}{before}{part}{}{back}\n{blank}{mark}",
+            "\n{front}{before}{part}{}{back}\n{blank}{carets}",
             Escaped(after)
         )
     }
@@ -274,25 +274,25 @@ fn is_hidden(c: char) -> bool {
 
 impl Error for SettingsError {}
 
-/// Returns a fault with its line. It begins where a character begins or the string ends, and ends with the line at the latest.
-pub(crate) fn marked_at(alloc: Global, text: &str, fault: Fault) -> Result<Marked, AllocError>
-    ensures { IfOk result (IsMarkedIn text.now) }
+/// Returns an error with its line. It begins where a character begins or the string ends, and ends with the line at the latest.
+pub(crate) fn error_at(alloc: Global, text: &str, error: ErrorRange) -> Result<ErrorAt, AllocError>
+    ensures { IfOk result (IsPositionIn text.now) }
 {
-    let at = text.floor_char_boundary(fault.start);
-    let (before, rest) = text.split_at(at);
+    let offset = text.floor_char_boundary(error.start);
+    let (before, rest) = text.split_at(offset);
     let line = first_line(rest);
-    let len = fault
+    let len = error
         .end
-        .saturating_sub(at)
+        .saturating_sub(offset)
         .min(line.trim_end_matches('\r').len());
-    let (marked, after) = line.split_at(line.floor_char_boundary(len));
-    Ok(Marked {
-        at,
+    let (part, after) = line.split_at(line.floor_char_boundary(len));
+    Ok(ErrorAt {
+        offset,
         line: line_number(before),
         before: String::from_str(alloc, last_line(before))?,
-        marked: String::from_str(alloc, marked)?,
+        part: String::from_str(alloc, part)?,
         after: String::from_str(alloc, after)?,
-        message: fault.message,
+        message: error.message,
     })
 }
 

@@ -7,7 +7,7 @@ ghost use Rattle.serde.specs.Steps.{Gives};
 ghost use Rattle.humantime.specs.Prelude.{IsPrinted, duration_answer, duration_text, places_of, weak_answer};
 ghost use Rattle.humantime_settings.specs.Texts.{Form, AreEntries, AreTexts, IsMapFrom, IsText, IsTextOrNothing, Reads, Writes};
 
-use crate::faults::Message;
+use crate::error_range::Message;
 use humantime::laws::printed_moment_reads;
 use humantime::{
     Duration, StdDuration, SystemTime, Timestamp, format_duration, format_rfc3339, parse_duration,

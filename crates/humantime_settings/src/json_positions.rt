@@ -5,8 +5,8 @@ use json::{Reader, Scratch, Token};
 use serde::Kind;
 use std::alloc::{AllocError, Global};
 
-/// Returns the offset of a part of the value to which a path leads, and what is there. The path has, for each object and array, the number of
-/// the member or the item, from 0. At the end of an array, the number of its items is found.
+/// Returns the offset of a part of the value to which a path leads, and what is there. The path has, for each object and array, the number
+/// of the member or the item, from 0. At the end of an array, the number of its items is found.
 pub(crate) fn found_at<'a>(
     alloc: Global,
     document: &'a str,

@@ -5,13 +5,13 @@ ghost use Rattle.json.specs.Layout.{pretty};
 ghost use Rattle.json.specs.Lex.{tokens};
 ghost use Rattle.serde.specs.Event.{Log};
 ghost use Rattle.serde_json.specs.Sent.{AreTokensOf};
-ghost use Rattle.humantime_settings.specs.Marks.{IsErrorIn};
+ghost use Rattle.humantime_settings.specs.Positions.{IsErrorIn};
 
-use crate::error::{SettingsError, marked_at};
-use crate::faults::Fault;
+use crate::error::{SettingsError, error_at};
+use crate::error_range::ErrorRange;
 use crate::json_positions::found_at;
 use crate::json_syntax::syntax_error;
-use crate::rejection::{Cause, Part, Rejection, fault_at};
+use crate::rejection::{Cause, Part, Rejection, range_at};
 use crate::trace::Traced;
 use json::Scratch;
 use serde::{Deserialize, Serialize};
@@ -40,8 +40,8 @@ use std::alloc::{AllocError, Global};
 /// assert_eq!(rt; error.to_string(rt.alloc())?.as_str(), "line 1, column 14: time unit needed, for example 30sec or 30ms\n[\"1s\", \"1m 30\"]\n             ^");
 /// ```
 pub fn from_json<'a, T: Deserialize<'a>>(alloc: Global, text: &'a str) -> Result<T, SettingsError>
-    ensures mark { IfErr result (IsErrorIn text.now) }
-    ensures place { (message : _) → result ≢ Err (SettingsError.Whole message) }
+    ensures position { IfErr result (IsErrorIn text.now) }
+    ensures positioned { (message : _) → result ≢ Err (SettingsError.WithoutPosition message) }
 {
     let error = match serde_json::from_str::<T>(alloc, text) {
         Ok(value) => return Ok(value),
@@ -50,15 +50,15 @@ pub fn from_json<'a, T: Deserialize<'a>>(alloc: Global, text: &'a str) -> Result
     if error.is_memory() {
         return Err(SettingsError::OutOfMemory);
     }
-    let fault = located::<T>(alloc, text, &error)?;
-    Err(SettingsError::At(marked_at(alloc, text, fault)?))
+    let error = located::<T>(alloc, text, &error)?;
+    Err(SettingsError::At(error_at(alloc, text, error)?))
 }
 
 /// Writes settings in pretty-printed JSON.
 ///
 /// # Errors
 ///
-/// Returns [`SettingsError::Whole`] if a value cannot be written, such as a timestamp that is not from 1970 to 9999, and
+/// Returns [`SettingsError::WithoutPosition`] if a value cannot be written, such as a timestamp that is not from 1970 to 9999, and
 /// [`SettingsError::OutOfMemory`] if an allocation fails.
 ///
 /// # Examples
@@ -73,41 +73,41 @@ pub fn from_json<'a, T: Deserialize<'a>>(alloc: Global, text: &'a str) -> Result
 pub fn to_json<T: Serialize>(alloc: Global, value: &T) -> Result<String, SettingsError>
     ensures tokens { IfOk result (λ s. (log : Log) × T.writes value.now (Some []) log × AreTokensOf false log (tokens (string_bytes s))) }
     ensures layout { IfOk result (λ s. string_bytes s ≡ pretty (tokens (string_bytes s))) }
-    ensures whole { (fault : _) → result ≢ Err (SettingsError.At fault) }
+    ensures unplaced { (error : _) → result ≢ Err (SettingsError.At error) }
 {
     match serde_json::to_string_pretty(alloc, value) {
         Ok(text) => Ok(text),
         Err(error) if error.is_memory() => Err(SettingsError::OutOfMemory),
-        Err(error) => Err(SettingsError::Whole(error.to_string(alloc)?)),
+        Err(error) => Err(SettingsError::WithoutPosition(error.to_string(alloc)?)),
     }
 }
 
-/// Returns the fault of a document with this error. What is not JSON has no other.
+/// Returns the error of a document with this error. What is not JSON has no other.
 fn located<'a, T: Deserialize<'a>>(
     alloc: Global,
     text: &'a str,
     error: &serde_json::Error,
-) -> Result<Fault, AllocError> {
+) -> Result<ErrorRange, AllocError> {
     let mut scratch = Scratch::new(alloc);
     if !error.is_data() {
         if let Some((at, message)) = syntax_error(alloc, text, &mut scratch)? {
-            return Ok(Fault::at(at, String::from_str(alloc, message)?));
+            return Ok(ErrorRange::at(at, String::from_str(alloc, message)?));
         }
     }
     match rejection_of::<T>(alloc, text)? {
         Some(rejection) => rejected(alloc, text, &rejection),
-        None => Ok(Fault::at(error_offset(text, error), message_of(alloc, error)?)),
+        None => Ok(ErrorRange::at(error_offset(text, error), message_of(alloc, error)?)),
     }
 }
 
-/// Returns the fault of a value.
-fn rejected(alloc: Global, text: &str, rejection: &Rejection) -> Result<Fault, AllocError> {
+/// Returns the error of a value.
+fn rejected(alloc: Global, text: &str, rejection: &Rejection) -> Result<ErrorRange, AllocError> {
     let mut scratch = Scratch::new(alloc);
     let (at, mut found) = found_at(alloc, text, &rejection.path, rejection.part, &mut scratch)?;
     if matches!(rejection.cause, Cause::Long(_) | Cause::Short) {
         found.len = array_len(alloc, text, &rejection.path)?;
     }
-    fault_at(alloc, text, at, rejection, &found)
+    range_at(alloc, text, at, rejection, &found)
 }
 
 /// Returns how many items the array has to which a path leads.
@@ -117,8 +117,8 @@ fn array_len(alloc: Global, text: &str, path: &[usize]) -> Result<usize, AllocEr
     Ok(end.len)
 }
 
-/// Returns why a document does not contain a value, or `None` if it is not JSON or contains one, or if the value borrows the string that its
-/// type rejects.
+/// Returns why a document does not contain a value, or `None` if it is not JSON or contains one, or if the value borrows the string that
+/// its type rejects.
 fn rejection_of<'a, T: Deserialize<'a>>(
     alloc: Global,
     text: &'a str,

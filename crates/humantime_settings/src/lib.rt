@@ -49,18 +49,18 @@
 #![tactic(auto)]
 
 mod error;
-mod faults;
+mod error_range;
 mod fields;
 mod json_positions;
 mod json_settings;
 mod json_syntax;
 mod raw_strings;
 mod rejection;
-mod toml_places;
+mod toml_positions;
 mod toml_settings;
 mod trace;
 
-pub use error::{Marked, SettingsError};
+pub use error::{ErrorAt, SettingsError};
 pub use fields::{AsText, Field, deserialize, serialize};
 pub use json_settings::{from_json, to_json};
 pub use toml_settings::{from_toml, to_toml};

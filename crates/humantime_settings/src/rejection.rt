@@ -1,6 +1,6 @@
 //! Where and why a document does not contain a value.
 
-use crate::faults::{Fault, fault_in};
+use crate::error_range::{ErrorRange, error_in};
 use serde::Kind;
 use std::alloc::{AllocError, Global};
 
@@ -57,21 +57,21 @@ pub(crate) struct Found<'a> {
     pub len: usize,
 }
 
-/// Returns the fault of what a document has at this offset.
-pub(crate) fn fault_at(
+/// Returns the error of what a document has at this offset.
+pub(crate) fn range_at(
     alloc: Global,
     document: &str,
     at: usize,
     rejection: &Rejection,
     found: &Found<'_>,
-) -> Result<Fault, AllocError> {
+) -> Result<ErrorRange, AllocError> {
     let message = message(alloc, rejection, found)?;
     if found.kind == Kind::Str {
-        if let Some(fault) = fault_in(alloc, &message, document, at, found.text)? {
-            return Ok(fault);
+        if let Some(error) = error_in(alloc, &message, document, at, found.text)? {
+            return Ok(error);
         }
     }
-    Ok(Fault::at(at, message))
+    Ok(ErrorRange::at(at, message))
 }
 
 fn message(alloc: Global, rejection: &Rejection, found: &Found<'_>) -> Result<String, AllocError> {

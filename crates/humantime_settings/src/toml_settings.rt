@@ -2,12 +2,12 @@
 
 ghost use Rattle.std.specs.Prelude.{◌≢◌, Err, IfErr, IfOk, IsSome, Ok, OnOk};
 ghost use Rattle.toml.specs.Parse.{parse_document};
-ghost use Rattle.humantime_settings.specs.Marks.{IsErrorIn};
+ghost use Rattle.humantime_settings.specs.Positions.{IsErrorIn};
 
-use crate::error::{SettingsError, marked_at};
-use crate::faults::Fault;
-use crate::rejection::{Cause, Found, Part, Rejection, fault_at};
-use crate::toml_places::{Step, last_part, place_of};
+use crate::error::{SettingsError, error_at};
+use crate::error_range::ErrorRange;
+use crate::rejection::{Cause, Found, Part, Rejection, range_at};
+use crate::toml_positions::{Step, entry_of, last_part};
 use crate::trace::Traced;
 use serde::{DeserializeOwned, Kind, Serialize};
 use std::alloc::{AllocError, Global};
@@ -44,8 +44,8 @@ use toml_parser::{ErrorKind, ParseError};
 /// ```
 pub fn from_toml<T: DeserializeOwned>(alloc: Global, text: &str) -> Result<T, SettingsError>
     ensures document { OnOk result (IsSome (parse_document text.now)) }
-    ensures mark { IfErr result (IsErrorIn text.now) }
-    ensures place { (message : _) → result ≢ Err (SettingsError.Whole message) }
+    ensures position { IfErr result (IsErrorIn text.now) }
+    ensures positioned { (message : _) → result ≢ Err (SettingsError.WithoutPosition message) }
 {
     let read = match toml::from_str::<Traced<T>>(alloc, text) {
         Ok(Traced(read)) => read,
@@ -54,8 +54,8 @@ pub fn from_toml<T: DeserializeOwned>(alloc: Global, text: &str) -> Result<T, Se
     match read {
         Ok(value) => Ok(value),
         Err(rejection) => {
-            let fault = located(alloc, text, rejection)?;
-            Err(SettingsError::At(marked_at(alloc, text, fault)?))
+            let error = located(alloc, text, rejection)?;
+            Err(SettingsError::At(error_at(alloc, text, error)?))
         }
     }
 }
@@ -64,7 +64,7 @@ pub fn from_toml<T: DeserializeOwned>(alloc: Global, text: &str) -> Result<T, Se
 ///
 /// # Errors
 ///
-/// Returns [`SettingsError::Whole`] if a value cannot be written, such as a timestamp that is not from 1970 to 9999, and
+/// Returns [`SettingsError::WithoutPosition`] if a value cannot be written, such as a timestamp that is not from 1970 to 9999, and
 /// [`SettingsError::OutOfMemory`] if an allocation fails.
 ///
 /// # Examples
@@ -79,12 +79,12 @@ pub fn from_toml<T: DeserializeOwned>(alloc: Global, text: &str) -> Result<T, Se
 /// assert_eq!(rt; to_toml(rt.alloc(), &waits)?.as_str(), "first = \"1m 30s\"\n");
 /// ```
 pub fn to_toml<T: Serialize>(alloc: Global, value: &T) -> Result<String, SettingsError>
-    ensures { (fault : _) → result ≢ Err (SettingsError.At fault) }
+    ensures { (error : _) → result ≢ Err (SettingsError.At error) }
 {
     match toml::to_string(alloc, value) {
         Ok(text) => Ok(text),
         Err(error) if error.is_memory() => Err(SettingsError::OutOfMemory),
-        Err(error) => Err(SettingsError::Whole(error.to_string(alloc)?)),
+        Err(error) => Err(SettingsError::WithoutPosition(error.to_string(alloc)?)),
     }
 }
 
@@ -94,8 +94,8 @@ fn document_error(
     text: &str,
     error: &toml::de::Error,
 ) -> Result<SettingsError, AllocError>
-    ensures mark { IfOk result (IsErrorIn text.now) }
-    ensures place { (message : _) → result ≢ Ok (SettingsError.Whole message) }
+    ensures position { IfOk result (IsErrorIn text.now) }
+    ensures positioned { (message : _) → result ≢ Ok (SettingsError.WithoutPosition message) }
 {
     let Some(span) = error.span() else {
         return Ok(SettingsError::OutOfMemory);
@@ -104,12 +104,12 @@ fn document_error(
     if error.message() == ErrorKind::DuplicateKey.description() {
         at = last_part(alloc, text, at)?;
     }
-    let fault = Fault::at(at, String::from_str(alloc, error.message())?);
-    Ok(SettingsError::At(marked_at(alloc, text, fault)?))
+    let error = ErrorRange::at(at, String::from_str(alloc, error.message())?);
+    Ok(SettingsError::At(error_at(alloc, text, error)?))
 }
 
-/// Returns the fault of a value.
-fn located(alloc: Global, text: &str, mut rejection: Rejection) -> Result<Fault, AllocError> {
+/// Returns the error of a value.
+fn located(alloc: Global, text: &str, mut rejection: Rejection) -> Result<ErrorRange, AllocError> {
     let Ok(table) = toml::table_from_str(alloc, text) else {
         return Err(AllocError);
     };
@@ -127,7 +127,7 @@ fn located(alloc: Global, text: &str, mut rejection: Rejection) -> Result<Fault,
         _ => described(alloc, value)?,
     };
     let at = offset_of(alloc, text, &steps, rejection.part)?;
-    fault_at(alloc, text, at, &rejection, &found)
+    range_at(alloc, text, at, &rejection, &found)
 }
 
 /// Returns the steps of a path, at most to a date-time, and the value to which they lead.
@@ -196,12 +196,12 @@ fn offset_of(
     steps: &[Step<'_>],
     part: Part,
 ) -> Result<usize, AllocError> {
-    match place_of(alloc, document, steps) {
-        Ok(Some(place)) => {
+    match entry_of(alloc, document, steps) {
+        Ok(Some(entry)) => {
             let rest = if part == Part::Key {
-                place.key
+                entry.key
             } else {
-                place.value
+                entry.value
             };
             Ok(document.len().saturating_sub(rest.len()))
         }

@@ -111,8 +111,8 @@ struct Trace<'a, 'de, 's, F: Format> {
     counts: Vec<usize>,
     at: At,
     last: Last,
-    /// The keys that `rename_all` makes, of the maps in the current one: how many maps and sequences are open there, the name of the field, and
-    /// the key.
+    /// The keys that `rename_all` makes, of the maps in the current one: how many maps and sequences are open there, the name of the field,
+    /// and the key.
     renamed: Vec<(usize, String, String)>,
     /// The names that were expected in place of the last key, or the key that is missing.
     words: String,

@@ -295,12 +295,12 @@ fn assert_found(rt: &(impl Abort + AllocGlobal), is_json: bool, count: usize) ->
             continue;
         };
         wrong += 1;
-        let Some(SettingsError::At(fault)) = error else {
+        let Some(SettingsError::At(error)) = error else {
             panic!(rt; "{error:?} {text}");
         };
         // The part that is marked ends with its line.
         let marked = text[*start..*end].lines().next().unwrap_or("");
-        assert_eq!(rt; (fault.at, fault.marked.as_str()), (*start, marked), "{} {text}", draw.kind.1);
+        assert_eq!(rt; (error.offset, error.part.as_str()), (*start, marked), "{} {text}", draw.kind.1);
     }
     Ok(())
 }

@@ -2,8 +2,8 @@
 #![tactic(auto)]
 
 mod attributes;
+mod documents;
 mod drawn;
-mod faults;
 mod refused;
 pub(crate) mod support;
 mod toml_keys;

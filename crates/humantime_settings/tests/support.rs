@@ -18,7 +18,7 @@ pub(crate) fn assert_errors(rt: &(impl Abort + AllocGlobal), read: Read, job: &s
         let text = document.replace(rt.alloc(), "JOB", job)?;
         let error = read(rt.alloc(), &text).expect(rt, "read");
         let marked = match &error {
-            SettingsError::At(fault) => fault.marked.as_str(),
+            SettingsError::At(error) => error.part.as_str(),
             _ => "",
         };
         let told = (error.line().unwrap_or(0), error.column().unwrap_or(0), marked, error.message());
@@ -39,12 +39,12 @@ pub(crate) fn assert_marked(rt: &(impl Abort + AllocGlobal), read: Read, documen
     let (marked, behind) = rest.split_once('‸').unwrap_or(("", rest));
     let text = format!(in rt.alloc(); "{front}{marked}{behind}")?;
     let error = read(rt.alloc(), &text);
-    let Some(SettingsError::At(fault)) = &error else {
+    let Some(SettingsError::At(error)) = &error else {
         panic!(rt; "{error:?} {document}");
     };
     let line = front.matches('\n').count() + 1;
     let column = front.rsplit('\n').next().unwrap_or("").chars().count() + 1;
-    let told = (fault.at, fault.line, fault.column(), fault.marked.as_str(), fault.message.as_str());
+    let told = (error.offset, error.line, error.column(), error.part.as_str(), error.message.as_str());
     assert_eq!(rt; told, (front.len(), line, column, marked, message), "{document}");
     Ok(())
 }

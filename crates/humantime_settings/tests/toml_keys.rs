@@ -41,7 +41,7 @@ fn read(alloc: Global, text: &str) -> Option<SettingsError> {
 }
 
 const KEYS: &[Case<'static>] = &[
-    // The key of a map is marked where the fault is in it: in quotes, bare, behind a dot, and as the key of a header.
+    // The key of a map is marked where the error is in it: in quotes, bare, behind a dot, and as the key of a header.
     ("[counts]\n'2s' = 1\n'1s ~' = 1\n", 3, 5, "~", "expected number at 3"),
     ("counts = { 10 = 1 }", 1, 14, "", "time unit needed, for example 10sec or 10ms"),
     ("counts.1s = 1\ncounts.'~' = 1", 2, 9, "~", "expected number at 0"),

@@ -1,5 +1,5 @@
 use Rattle.std.proofs.Common.{◌≡◌, ◌+◌, count_by, take}
-use Rattle.humantime_settings.specs.Marks.{is_line_feed}
+use Rattle.humantime_settings.specs.Positions.{is_line_feed}
 use Rattle.humantime_settings.proofs.error.line_number.Given as goal
 
 -- The lines that have ended so far, and the one that has not.

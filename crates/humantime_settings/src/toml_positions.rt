@@ -1,4 +1,4 @@
-//! The place in a TOML document to which a path leads.
+//! The position in a TOML document to which a path leads.
 
 use std::alloc::{AllocError, Global};
 use toml_parser::text::{first, skip_blank, skip_ws};
@@ -14,7 +14,7 @@ pub(crate) enum Step<'a> {
 
 /// A key with its value, or an item of an array.
 #[derive(Clone, Copy)]
-pub(crate) struct Place<'a> {
+pub(crate) struct Entry<'a> {
     /// The document from the last part of the key on. An item has none, but its value.
     pub key: &'a str,
     /// The document from the value on. That of a header is the header, and that of a part which other parts follow is the part.
@@ -22,7 +22,7 @@ pub(crate) struct Place<'a> {
 }
 
 /// The steps of a path that are left in a table or behind a key, or `None` if the path does not lead there.
-type Left<'a> = Option<&'a [Step<'a>]>;
+type StepsLeft<'a> = Option<&'a [Step<'a>]>;
 
 /// A walk through a document that `toml` has read, along a path.
 #[derive(Drop)]
@@ -31,21 +31,21 @@ struct Walk<'a> {
     path: &'a [Step<'a>],
     rest: &'a str,
     /// What is left of the path in the table that is open.
-    left: Left<'a>,
+    left: StepsLeft<'a>,
     /// How many items have begun with a header in two brackets, by the number of steps that are left.
-    begun: Vec<usize>,
+    item_counts: Vec<usize>,
     /// The first part of a longer header that makes the table where the path ends.
-    made: Option<Place<'a>>,
+    implied: Option<Entry<'a>>,
 }
 
-/// Returns the place to which a path leads, which is one in the document's values. A table that has no header or brace begins with the first
+/// Returns the entry to which a path leads, which is one in the document's values. A table that has no header or brace begins with the first
 /// key that makes it.
-pub(crate) fn place_of<'a>(
+pub(crate) fn entry_of<'a>(
     alloc: Global,
     document: &'a str,
     path: &'a [Step<'a>],
-) -> Result<Option<Place<'a>>, ParseError> {
-    let top = Place {
+) -> Result<Option<Entry<'a>>, ParseError> {
+    let top = Entry {
         key: document,
         value: document,
     };
@@ -55,8 +55,8 @@ pub(crate) fn place_of<'a>(
         // `toml` accepts a byte order mark, too.
         rest: document.strip_prefix('\u{feff}').unwrap_or(document),
         left: Some(path),
-        begun: vec![in alloc; 0; path.len() + 1]?,
-        made: path.is_empty().then_some(top),
+        item_counts: vec![in alloc; 0; path.len() + 1]?,
+        implied: path.is_empty().then_some(top),
     };
     // Each step passes at least one character.
     for _ in 0..document.len() {
@@ -65,29 +65,29 @@ pub(crate) fn place_of<'a>(
             return Ok(found);
         }
     }
-    Ok(walk.made)
+    Ok(walk.implied)
 }
 
 impl<'a> Walk<'a> {
-    /// Passes a header or an entry of a table. Returns the place where the path ends if it is found.
-    fn step(&mut self) -> Result<Option<Place<'a>>, ParseError> {
+    /// Passes a header or an entry of a table. Returns the entry where the path ends if it is found.
+    fn step(&mut self) -> Result<Option<Entry<'a>>, ParseError> {
         let rest = skip_blank(self.rest, true);
         // A comma ends an entry of an inline table.
         let rest = skip_blank(rest.strip_prefix(',').unwrap_or(rest), true);
         match first(rest) {
-            0 => Ok(self.made),
+            0 => Ok(self.implied),
             b'[' => self.header(rest),
             _ => self.entry(rest),
         }
     }
 
     /// Passes a header.
-    fn header(&mut self, header: &'a str) -> Result<Option<Place<'a>>, ParseError> {
+    fn header(&mut self, header: &'a str) -> Result<Option<Entry<'a>>, ParseError> {
         let name = header.trim_start_matches(['[', ' ', '\t']);
         let (left, key, rest) = self.key(name, Some(self.path))?;
         self.rest = tail(rest, rest.find('\n').unwrap_or(rest.len()));
         if first(rest) == b'.' {
-            self.made = self.made.or(Some(Place { key, value: key }));
+            self.implied = self.implied.or(Some(Entry { key, value: key }));
             self.left = None;
             return Ok(None);
         }
@@ -96,18 +96,18 @@ impl<'a> Walk<'a> {
         } else {
             left
         };
-        Ok(matches!(self.left, Some([])).then_some(Place { key, value: header }))
+        Ok(matches!(self.left, Some([])).then_some(Entry { key, value: header }))
     }
 
     /// Passes an entry of the table that is open, or goes into its value if the path leads there.
-    fn entry(&mut self, entry: &'a str) -> Result<Option<Place<'a>>, ParseError> {
+    fn entry(&mut self, entry: &'a str) -> Result<Option<Entry<'a>>, ParseError> {
         let (left, key, rest) = self.key(entry, self.left)?;
         if first(rest) == b'.' {
-            return Ok(self.made.or(Some(Place { key, value: key })));
+            return Ok(self.implied.or(Some(Entry { key, value: key })));
         }
         let value = skip_ws(tail(rest, 1));
         match left {
-            Some(left) => self.value(Place { key, value }, left),
+            Some(left) => self.value(Entry { key, value }, left),
             None => {
                 self.rest = after_value(self.alloc, value)?;
                 Ok(None)
@@ -115,28 +115,28 @@ impl<'a> Walk<'a> {
         }
     }
 
-    /// Goes into the value at a place. Returns the place where the path ends, or `None` if it leads into an inline table.
+    /// Goes into the value of an entry. Returns the entry where the path ends, or `None` if it leads into an inline table.
     fn value(
         &mut self,
-        mut place: Place<'a>,
+        mut entry: Entry<'a>,
         mut left: &'a [Step<'a>],
-    ) -> Result<Option<Place<'a>>, ParseError> {
+    ) -> Result<Option<Entry<'a>>, ParseError> {
         for _ in 0..self.path.len() {
-            let ([Step::Item(number), behind @ ..], b'[') = (left, first(place.value)) else {
+            let ([Step::Item(number), behind @ ..], b'[') = (left, first(entry.value)) else {
                 break;
             };
-            let item = item_of(self.alloc, place.value, *number)?;
-            place = Place {
+            let item = item_of(self.alloc, entry.value, *number)?;
+            entry = Entry {
                 key: item,
                 value: item,
             };
             left = behind;
         }
         // Steps can be left: a date-time is an object in JSON.
-        if left.is_empty() || first(place.value) != b'{' {
-            return Ok(Some(place));
+        if left.is_empty() || first(entry.value) != b'{' {
+            return Ok(Some(entry));
         }
-        (self.left, self.rest) = (Some(left), tail(place.value, 1));
+        (self.left, self.rest) = (Some(left), tail(entry.value, 1));
         Ok(None)
     }
 
@@ -145,12 +145,12 @@ impl<'a> Walk<'a> {
     fn key(
         &self,
         key: &'a str,
-        left: Left<'a>,
-    ) -> Result<(Left<'a>, &'a str, &'a str), ParseError> {
+        left: StepsLeft<'a>,
+    ) -> Result<(StepsLeft<'a>, &'a str, &'a str), ParseError> {
         let (mut left, mut part, mut rest) = (left, key, key);
         for _ in 0..key.len() {
             let (name, after) = name_at(self.alloc, part)?;
-            (left, rest) = (behind(left, &name), skip_ws(after));
+            (left, rest) = (steps_behind(left, &name), skip_ws(after));
             if first(rest) != b'.' || matches!(left, Some([])) {
                 break;
             }
@@ -160,18 +160,18 @@ impl<'a> Walk<'a> {
     }
 
     /// Begins an item of an array with a header.
-    fn next_item(&mut self, left: Left<'a>) -> Left<'a> {
-        let begun = self.begun.get_mut(left?.len())?;
-        *begun = begun.saturating_add(1);
+    fn next_item(&mut self, left: StepsLeft<'a>) -> StepsLeft<'a> {
+        let item_counts = self.item_counts.get_mut(left?.len())?;
+        *item_counts = item_counts.saturating_add(1);
         self.last_item(left)
     }
 
     /// Goes into the last item that has begun, if the path leads into an array of tables.
-    fn last_item(&self, left: Left<'a>) -> Left<'a> {
+    fn last_item(&self, left: StepsLeft<'a>) -> StepsLeft<'a> {
         let steps = left?;
         match steps {
             [Step::Item(number), behind @ ..] => {
-                (self.begun.get(steps.len()) == Some(number)).then_some(behind)
+                (self.item_counts.get(steps.len()) == Some(number)).then_some(behind)
             }
             _ => left,
         }
@@ -196,7 +196,7 @@ pub(crate) fn last_part(alloc: Global, document: &str, at: usize) -> Result<usiz
 }
 
 /// Returns what is left of a path behind a key.
-fn behind<'a>(left: Left<'a>, name: &str) -> Left<'a> {
+fn steps_behind<'a>(left: StepsLeft<'a>, name: &str) -> StepsLeft<'a> {
     match left? {
         [Step::Key(key), behind @ ..] if *key == name => Some(behind),
         _ => None,

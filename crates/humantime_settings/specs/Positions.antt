@@ -1,10 +1,10 @@
--- A fault at a place in a text. A text is its bytes.
+-- The position of an error in a text. A text is its bytes.
 use Rattle.std.specs.Prelude.{◌≡◌, ◌==◌, ◌+◌, ◌++◌, ⊤, Bool, ℕ, List, Option, None, Some, chars, codes, count_by, drop, not, string_bytes, take}
 use Rattle.std.specs.List.{after_last, before_first}
 use Rattle.std.specs.Str.{IsCharBoundary, byte}
-use Rattle.humantime_settings.specs.declared.error.Marked.{Marked}
+use Rattle.humantime_settings.specs.declared.error.ErrorAt.{ErrorAt}
 use Rattle.humantime_settings.specs.declared.error.SettingsError.{SettingsError}
-use Rattle.humantime_settings.specs.declared.error.SettingsError.TheVariants.{At, OutOfMemory, Whole}
+use Rattle.humantime_settings.specs.declared.error.SettingsError.TheVariants.{At, OutOfMemory, WithoutPosition}
 
 -- This byte ends a line.
 abbrev pub is_line_feed : ℕ → Bool
@@ -22,35 +22,35 @@ line_before text at = after_last is_line_feed (take at text)
 abbrev pub line_after : List ℕ → ℕ → List ℕ
 line_after text at = before_first is_line_feed (drop at text)
 
--- The mark is where a character of the text begins or the text ends, and has the line that is there, in parts: up to this place, what is
--- wrong, and the rest.
-pub record IsMarkedIn (text : List ℕ) (marked : Marked) : Type 0 where
-  pub at : IsCharBoundary text marked.at
-  pub line : marked.line ≡ line_number text marked.at
-  pub before : string_bytes marked.before ≡ line_before text marked.at
-  pub after : string_bytes marked.marked ++ string_bytes marked.after ≡ line_after text marked.at
+-- The position is where a character of the text begins or the text ends. The line there is in parts: up to the position, what is wrong, and
+-- the rest.
+pub record IsPositionIn (text : List ℕ) (error : ErrorAt) : Type 0 where
+  pub offset : IsCharBoundary text error.offset
+  pub line : error.line ≡ line_number text error.offset
+  pub before : string_bytes error.before ≡ line_before text error.offset
+  pub after : string_bytes error.part ++ string_bytes error.after ≡ line_after text error.offset
 
--- If the error has a mark, this is in the text.
+-- If the error has a position, this is in the text.
 abbrev pub IsErrorIn : List ℕ → SettingsError → Type 0
-IsErrorIn text (At marked) = IsMarkedIn text marked
+IsErrorIn text (At error) = IsPositionIn text error
 IsErrorIn text _ = ⊤
 
--- The line number of an error that has a place.
+-- The line number of an error that has a position.
 abbrev pub line_of : SettingsError → Option ℕ
-line_of (At marked) = Some marked.line
+line_of (At error) = Some error.line
 line_of _ = None
 
 -- The columns of a line: its characters, but for a byte order mark.
 abbrev pub columns : List ℕ → ℕ
 columns line = count_by (λ c. not (c == 65279)) (chars line)
 
--- The column of an error that has a place, from 1.
+-- The column of an error that has a position, from 1.
 abbrev pub column_of : SettingsError → Option ℕ
-column_of (At marked) = Some (columns (string_bytes marked.before) + 1)
+column_of (At error) = Some (columns (string_bytes error.before) + 1)
 column_of _ = None
 
--- What an error says, without the place.
+-- What an error says, without the position.
 abbrev pub message_of : SettingsError → List ℕ
 message_of OutOfMemory = codes "out of memory"
-message_of (At marked) = string_bytes marked.message
-message_of (Whole message) = string_bytes message
+message_of (At error) = string_bytes error.message
+message_of (WithoutPosition message) = string_bytes message

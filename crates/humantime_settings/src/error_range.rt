@@ -10,7 +10,7 @@ pub(crate) type Message = InlineText<80>;
 
 /// What is wrong with a string, and where.
 #[derive(Drop)]
-pub(crate) struct Fault {
+pub(crate) struct ErrorRange {
     pub message: String,
     /// The offset of the first byte that is wrong.
     pub start: usize,
@@ -18,11 +18,11 @@ pub(crate) struct Fault {
     pub end: usize,
 }
 
-impl Fault {
-    /// Creates a fault of which only the start is known.
-    pub(crate) fn at(start: usize, message: String) -> Fault {
+impl ErrorRange {
+    /// Creates an error of which only the start is known.
+    pub(crate) fn at(start: usize, message: String) -> ErrorRange {
         let end = start;
-        Fault {
+        ErrorRange {
             message,
             start,
             end,
@@ -30,19 +30,19 @@ impl Fault {
     }
 }
 
-/// Returns the fault of the string literal at an offset of a document, if `said` is its message.
-pub(crate) fn fault_in(
+/// Returns the error of the string literal at an offset of a document, if `said` is its message.
+pub(crate) fn error_in(
     alloc: Global,
     said: &str,
     document: &str,
     at: usize,
     text: &str,
-) -> Result<Option<Fault>, AllocError> {
-    let fault = said_fault(alloc, said, document, at, text, parse_duration(text).err())?;
-    if fault.is_some() {
-        return Ok(fault);
+) -> Result<Option<ErrorRange>, AllocError> {
+    let error = said_error(alloc, said, document, at, text, parse_duration(text).err())?;
+    if error.is_some() {
+        return Ok(error);
     }
-    said_fault(
+    said_error(
         alloc,
         said,
         document,
@@ -52,15 +52,15 @@ pub(crate) fn fault_in(
     )
 }
 
-/// Returns the fault of a string with this error, if `said` is its message.
-fn said_fault<E: Display + Drop>(
+/// Returns the error of a string, if `said` is its message.
+fn said_error<E: Display + Drop>(
     alloc: Global,
     said: &str,
     document: &str,
     at: usize,
     text: &str,
     error: Option<Located<E>>,
-) -> Result<Option<Fault>, AllocError> {
+) -> Result<Option<ErrorRange>, AllocError> {
     let Some(error) = error else {
         return Ok(None);
     };
@@ -68,7 +68,7 @@ fn said_fault<E: Display + Drop>(
     let is_said = Message::of(message.as_str()).as_str() == said;
     let literal = document.get(at..).unwrap_or("");
     let (start, end) = raw_range(literal, text, error.start, error.end);
-    Ok(is_said.then_some(Fault {
+    Ok(is_said.then_some(ErrorRange {
         message,
         start: start.saturating_add(at),
         end: end.saturating_add(at),

@@ -52,7 +52,7 @@ const JSON_JOB: &str = r#"{"name": "é ", "every": "5us", "since": "2018-02-14T0
 const JSON: &[Case<'static>] = &[
     (r#"{"timeout":"2h 7","job":{"name":"é","every":"1d","since":"2018-02-14T00:28:07Z"}}"#, 1, 17, "", "time unit needed, for example 7sec or 7ms"),
     ("{\n  \"timeout\": \"2h\",\n  \"job\": JOB,\n\t\"zone\": \"\"\n}", 4, 11, "", "timestamp format is invalid"),
-    // Characters of several bytes before the fault: its offset in the message counts bytes from the value, and its column characters.
+    // Characters of several bytes before the error: its offset in the message counts bytes from the value, and its column characters.
     ("{\n  \"timeout\": \"2h\",\n  \"job\": {\"name\": \"é 5µs x\", \"every\": \"5µs x\", \"since\": \"2018-02-14T00:28:07Z\"}\n}", 3, 44, "x", "expected number at 5"),
     ("{\n  \"timeout\": \"2h\",\n  \"job\": {\"name\": \"é \", \"every\": \"5us\", \"since\": \"2018-02-30T00:28:07Z\"}\n}", 3, 59, "30", "numeric component is out of range"),
     ("{\n  \"timeout\": 2,\n  \"job\": JOB\n}", 2, 14, "", "expected a duration in quotes"),
@@ -219,7 +219,7 @@ fn errors_are_printed(rt: HostRuntime) -> Result<(), Fail> {
         let error = read(alloc, text).expect(&rt, "read");
         assert_eq!(rt; error.to_string(alloc)?.as_str(), printed);
     }
-    let whole = SettingsError::Whole(String::from_str(alloc, "a\tb\u{1b}\n")?);
+    let whole = SettingsError::WithoutPosition(String::from_str(alloc, "a\tb\u{1b}\n")?);
     assert_eq!(rt; whole.to_string(alloc)?.as_str(), "a\tb\\u{1b}\\u{a}");
     assert_eq!(rt; SettingsError::OutOfMemory.to_string(alloc)?.as_str(), "out of memory");
     // The length counts bytes, and the escapes of a line that is shown are not cut.
@@ -335,7 +335,7 @@ fn each_byte_alone(rt: HostRuntime) -> Result<(), Fail> {
         let text = format!(in rt.alloc(); "{}", char::from(byte))?;
         for read in formats {
             match read(rt.alloc(), &text) {
-                Some(SettingsError::At(fault)) => assert!(rt; fault.at <= 1),
+                Some(SettingsError::At(error)) => assert!(rt; error.offset <= 1),
                 other => panic!(rt; "{other:?} {text:?}"),
             }
         }
