@@ -6,7 +6,7 @@ use Rattle.std.specs.List.{AllByRecursion, zip}
 use Rattle.std.specs.Str.{byte}
 use Rattle.std.proofs.lemmas.Bool.Decides.{nat_tests}
 use Rattle.humantime.specs.Characters.{decimal_value, without_trailing_zeros}
-use Rattle.humantime.specs.Durations.{in_nanos, in_seconds, in_seconds_and_nanos, scale_of_word, whole_nanos, SpelledSpan, Reads, Accepted, AllHaveRoom, BareZero, SumOf, Formed, additions, additions_of, fits, fraction_additions, fraction_fits, has_room, has_too_many_digits, of_kind, quantity_nanos, size, times, too_long, total, value}
+use Rattle.humantime.specs.Durations.{in_nanos, in_seconds, in_seconds_and_nanos, scale_of_word, whole_nanos, SpelledSpan, Reads, Accepted, AllHaveRoom, BareZero, SumOf, Formed, WithinLimits, additions, additions_of, fits, fraction_additions, fraction_fits, has_room, has_too_many_digits, of_kind, quantity_nanos, size, times, too_long, total, value}
 use Rattle.humantime.specs.Laws.{OlderFormed, OlderFraction, older_additions, older_additions_of, older_fraction_additions, older_value, AcceptedWithZeros, OlderZero, OlderSum}
 use Rattle.humantime.specs.PrintedDurations.{Suffix, printed_count, printed_counts, joined_by_space, suffixes, weights}
 use Rattle.humantime.specs.DurationResults.{divided, duration_text}
@@ -76,15 +76,19 @@ room : (t n : ℕ) → (has_room t (in_seconds n).whole ≡ small (t / 1_000_000
     × (has_room t (in_nanos n).whole ≡ (small (t % 1_000_000_000 + n) && small ((t + n) / 1_000_000_000)))
 room t n = (refl, refl)
 
--- There are no other limits, for any spans.
-formed : (s : SpelledSpan) → too_long s ≡ false → IsSome (scale_of_word s.word) → Formed s
-formed s short unit = record { short = short; word = unit }
+-- These are the limits of any spans, however many there are.
+formed : (s : SpelledSpan) → Formed s ↔ ((too_long s ≡ false) × IsSome (scale_of_word s.word))
+formed s = (λ f. (f.short, f.word), λ h. record { short = h.0; word = h.1 })
 
-any_spans : (text : List ℕ) (spans : List SpelledSpan) → Reads text spans → AllByRecursion Formed spans
-    → AllByRecursion (λ s. fits s ≡ true) spans
-    → ((before after : List _) (x : _) → additions spans ≡ before ++ x ∷ after → has_room (total before) x ≡ true)
-    → Accepted text (value spans)
-any_spans text spans reads each fit room = SumOf spans reads (record { formed = each; fit = fit; room = room }) refl
+any_room : (xs : List _) → AllHaveRoom xs ↔ ((before after : List _) (x : _) → xs ≡ before ++ x ∷ after → has_room (total before) x ≡ true)
+any_room xs = (λ h. h, λ h. h)
+
+any_limits : (spans : List SpelledSpan) → WithinLimits spans
+    ↔ (AllByRecursion Formed spans × AllByRecursion (λ s. fits s ≡ true) spans × AllHaveRoom (additions spans))
+any_limits spans = (λ w. (w.formed, w.fit, w.room), λ h. record { formed = h.0; fit = h.1; room = h.2 })
+
+any_spans : (text : List ℕ) (spans : List SpelledSpan) → Reads text spans → WithinLimits spans → Accepted text (value spans)
+any_spans text spans reads within = SumOf spans reads within refl
 
 zero : Accepted (codes "0") 0 × AcceptedWithZeros (codes "0") 0
 zero = (BareZero refl refl, OlderZero refl refl)

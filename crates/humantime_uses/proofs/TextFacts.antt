@@ -1,11 +1,11 @@
 -- What texts of durations consist of, at any length: whitespace, digits, letters, points, the words of the units; messages; and laws.
 use Rattle.std.proofs.Common.{◌≡◌, ◌↔◌, ◌⊎◌, ℕ, List, [], ◌∷◌, ◌++◌, Ok, Err, map, filter, refl}
-use Rattle.std.specs.Prelude.{codes, bytes_eq, decimal, ◌&&◌, ◌||◌, ◌==◌, nat_le, not, true, option_to_list, IsPermutation}
+use Rattle.std.specs.Prelude.{chars, codes, bytes_eq, decimal, ◌&&◌, ◌||◌, ◌==◌, nat_le, not, true, option_to_list, IsPermutation}
 use Rattle.std.specs.List.{AllByRecursion}
 use Rattle.std.specs.Char.{char_set_contains}
 use Rattle.std.specs.Map.{lookup}
 use Rattle.humantime.specs.declared.TimestampError.TheVariants.{OutOfRange, InvalidDigit, InvalidFormat}
-use Rattle.humantime.specs.Prelude.{Accepted, AreReordered, ExactlyOne, HasFault, IsTiled, Reads, SpanView, SpelledSpan, WithinLimits, slices_of, Fault, InvalidCharacter, NumberExpected, UnknownUnit, NumberOverflow, Empty, fault_message, timestamp_message, without_whitespace}
+use Rattle.humantime.specs.Prelude.{Accepted, AreReordered, ExactlyOne, HasFault, IsCanonicalOf, IsCanonicalText, IsTiled, Reads, SpanView, SpelledSpan, WithinLimits, slices_of, Fault, InvalidCharacter, NumberExpected, UnknownUnit, NumberOverflow, Empty, fault_message, timestamp_message, without_whitespace}
 use Rattle.humantime.specs.Laws.{IsOutcome, IsZeroOrSpans, is_gap}
 use Rattle.humantime.specs.Characters.{whitespace_chars, is_whitespace, is_digit, is_letter, is_point}
 use Rattle.humantime.specs.Durations.{in_nanos, in_seconds, in_seconds_and_nanos, scale_of_word, whole_nanos, words}
@@ -70,6 +70,9 @@ any_law : {A : Type 0} (IsSo : A → Type 0) (text : List ℕ) (v : ℕ) (e : Fa
     × (IsZeroOrSpans text
     → ((v : ℕ) × Accepted text v) ↔ ((text ≡ codes "0") ⊎ ((spans : List SpelledSpan) × Reads text spans × WithinLimits spans)))
 any_law IsSo text v e = (λ h. h, λ h. h, λ h. h, λ h. h)
+
+any_canonical : (text printed : List ℕ) → IsCanonicalOf text printed ↔ ((d : ℕ) × Accepted (chars text) d × IsCanonicalText d printed)
+any_canonical text printed = (λ c. (c.duration, c.accepted, c.canon), λ h. record { duration = h.0; accepted = h.1; canon = h.2 })
 
 -- The slices of items follow each other, and only gaps are around them.
 any_tiles : (text slice : List ℕ) (slices : List (List ℕ)) (x : SpanView) (e : Fault)

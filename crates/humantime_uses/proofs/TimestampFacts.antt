@@ -1,8 +1,8 @@
 -- What holds of any date, timestamp, moment and run of a job: each rule written out.
 use Rattle.std.proofs.Common.{◌≡◌, ◌≢◌, ◌↔◌, ◌⊎◌, ℕ, ◌+◌, ◌-◌, ◌*◌, ◌/◌, ◌%◌, ◌^◌, ◌≤◌, List, [], ◌∷◌, ◌++◌, None, Some, length, take, drop, refl, inl, inr, arith}
-use Rattle.std.specs.Prelude.{ℤ, ◌+ℤ◌, ◌≤ℤ◌, ◌<ℤ◌, pos, negsuc, Bool, true, false, ◌&&◌, ◌||◌, ◌==◌, nat_le, if◌then◌else◌, codes, min, option_map, slice_index, IsTrue}
+use Rattle.std.specs.Prelude.{ℤ, ◌+ℤ◌, ◌≤ℤ◌, ◌<ℤ◌, pos, negsuc, Bool, true, false, ◌&&◌, ◌||◌, ◌==◌, nat_le, if◌then◌else◌, codes, min, option_map, slice_index, slice_range, nat_eq, IsTrue}
 use Rattle.std.specs.Char.{is_ascii_digit}
-use Rattle.std.specs.List.{list_all}
+use Rattle.std.specs.List.{ends_with, list_all}
 use Rattle.std.specs.Str.{byte, all_ascii_digits}
 use Rattle.std.proofs.lemmas.Bool.Decides.{nat_tests}
 use Rattle.std.proofs.lemmas.Int.{ints}
@@ -39,6 +39,15 @@ any_parts : (b : List ℕ) (k : ℕ) (x : _) (y m d : ℕ)
     × (is_valid y m d ≡ ((nat_le 1970 y && nat_le y 9999) && (nat_le 1 m && nat_le m 12) && (nat_le 1 d && nat_le d (days_in_month y m))))
 unfolding timestamps_on_literals
 any_parts b k x y m d = (refl, refl, refl)
+
+-- The numbers are at these bytes, and the fraction is between byte 19 and the zone, whatever the length of the text is.
+any_part : (b : List ℕ) → let rest = drop 19 b in let ends = ends_with nat_eq rest in
+    let zone = if ends (codes "Z") then Letter_Z else (if ends (codes "+00:00") then ZeroOffset else NoZone) in
+    let number = λ (from to : ℕ). decimal_value (slice_range b from to) in
+    (date_time_of b ≡ record { date = record { year = number 0 4; month = number 5 7; day = number 8 10 }; hour = number 11 13; minute = number 14 16; second = number 17 19 })
+    × (fraction_part b ≡ take (length rest - length (zone_text zone)) rest)
+unfolding timestamps_on_literals
+any_part b = (refl, refl)
 
 strict_check : (b : List ℕ)
     → strict_checks b ≡ (nat_le 20 (length b) && (slice_index b 10 == byte "T") && ends_in_zone b, InvalidFormat) ∷ weak_checks b

@@ -2,7 +2,7 @@
 
 ghost use Rattle.std.specs.Prelude.{◌≡◌, ◌+◌, ◌≤◌, ◌↔◌, IfSome, IsSome, MatchOption};
 ghost use Rattle.humantime.specs.declared.Date.{Date};
-ghost use Rattle.humantime.specs.Prelude.{ExactlyOne, IsDate, IsDateOfDay, day_of};
+ghost use Rattle.humantime.specs.Prelude.{ExactlyOne, IsDate, day_of};
 
 use humantime::laws::one_date;
 use humantime::{Date, Turns, date_of_day, day_number};
@@ -19,8 +19,8 @@ pub fn days_after(date: Date, days: u32, turns: &mut Turns) -> Option<Date>
 
 /// Returns the date of a day, which is the only one, and the turns that were counted.
 pub fn only_date(day: u32) -> (Option<Date>, Turns)
-    ensures one { day ≤ 2_932_896 → ExactlyOne (IsDateOfDay day) }
-    ensures some { (d : Date) → IsDateOfDay day d → IsSome result.0 }
+    ensures one { day ≤ 2_932_896 → ExactlyOne (λ (d : Date). IsDate d × (day_of d ≡ day)) }
+    ensures some { (d : Date) → IsDate d → day_of d ≡ day → IsSome result.0 }
     ensures cost { MatchOption result.0 (result.1 ≡ 0) (λ _. result.1 ≡ 12) }
 {
     one_date(day);

@@ -1,7 +1,7 @@
 //! Callers that write values by `Display`, in lines and in columns of tables. Width and fill do not change the strings.
 
-ghost use Rattle.std.specs.Prelude.{◌≡◌, ◌++◌, Err, IsOk, IfOk, OnOk, codes, string_bytes};
-ghost use Rattle.std.specs.Fmt.{DisplaysOnOk, DisplaysStyledOnOk, WritesInCalls, fmt_error};
+ghost use Rattle.std.specs.Prelude.{◌≡◌, ◌++◌, Err, IsOk, IfErr, IfOk, OnOk, codes, string_bytes};
+ghost use Rattle.std.specs.Fmt.{DisplaysOnOk, DisplaysStyledOnOk, WritesInCalls, WritesStyledOnOk, fmt_error};
 ghost use Rattle.humantime.specs.Prelude.{IsPrintable, duration_text, fault_message, fault_of, printed_text, shortest_text, timestamp_message};
 
 use humantime::{
@@ -33,6 +33,34 @@ pub fn errors_row(alloc: Global, limit: &DurationError<'_>, start: &TimestampErr
     ensures { IfOk result (λ row. string_bytes row ≡ fault_message (fault_of limit.now) ++ (codes ", " ++ timestamp_message start.now)) }
 {
     format!(in alloc; "{limit:>80}, {start:^3}")
+}
+
+/// Writes a limit or its error, in whatever format: `f` may have any width, fill and precision.
+pub fn write_limit_or_error<W: Write>(
+    limit: &Result<Duration, DurationError<'_>>,
+    f: &mut fmt::Formatter<W>,
+) -> fmt::Result
+    ensures limit { IfOk limit.now (λ d. WritesStyledOnOk W.write_str_gives f.old result (duration_text d) f.new) }
+    ensures error { IfErr limit.now (λ e. WritesStyledOnOk W.write_str_gives f.old result (fault_message (fault_of e)) f.new) }
+{
+    match limit {
+        Ok(limit) => limit.fmt(f),
+        Err(error) => error.fmt(f),
+    }
+}
+
+/// Writes how long something took, or why its start was not known, in whatever format.
+pub fn write_took_or_error<W: Write>(
+    took: &Result<FormattedDuration, TimestampError>,
+    f: &mut fmt::Formatter<W>,
+) -> fmt::Result
+    ensures took { IfOk took.now (λ d. WritesStyledOnOk W.write_str_gives f.old result (duration_text d) f.new) }
+    ensures error { IfErr took.now (λ e. WritesStyledOnOk W.write_str_gives f.old result (timestamp_message e) f.new) }
+{
+    match took {
+        Ok(took) => took.fmt(f),
+        Err(error) => error.fmt(f),
+    }
 }
 
 /// Writes a timestamp. It writes nothing for a time outside 1970 to 9999.

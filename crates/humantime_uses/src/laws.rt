@@ -2,9 +2,9 @@
 
 ghost use Rattle.std.specs.Prelude.{◌≡◌, ◌≢◌, ◌+◌, ◌≤◌, ◌++◌, ◌∷◌, ◌<ℤ◌, ◌↔◌, ◌⊎◌, ℕ, ℤ, List, Option, Result, None, Some, Ok, Err, chars, length, pos, slice_index, true, IfSome, IsOk, IsPermutation, IsTrue, SomeIff};
 ghost use Rattle.std.specs.Ordering.{int_cmp, is_lt};
-ghost use Rattle.humantime.specs.Laws.{AcceptedAs, IsOutcome, IsZeroOrSpans};
+ghost use Rattle.humantime.specs.Laws.{IsOutcome, IsZeroOrSpans};
 ghost use Rattle.humantime.specs.Timestamps.{moment_of};
-ghost use Rattle.humantime.specs.Prelude.{Accepted, AcceptedWithZeros, AllHaveRoom, AreCounts, AreItems, AreReordered, ExactlyOne, Fault, Fields, HasFault, IsCanonicalOf, IsCanonicalText, IsMarked, IsPrintable, IsPrinted, IsStrict, IsStrictMoment, IsWeak, IsWeakMoment, Items, NumberOverflow, Reads, SpanView, SpelledSpan, WasAccepted, WithinLimits, additions, bare_zero, cut, canonical_answer, duration_answer, duration_text, first_failed, older_additions, printed_text, result_view, strict_checks, value, weak_answer, weak_checks, without_whitespace};
+ghost use Rattle.humantime.specs.Prelude.{Accepted, AcceptedWithZeros, AllHaveRoom, AreCounts, AreItems, AreReordered, ExactlyOne, Fault, Fields, HasFault, IsCanonicalOf, IsCanonicalText, IsMarked, IsPrintable, IsPrinted, IsStrict, IsStrictMoment, IsWeak, IsWeakMoment, Items, NumberOverflow, Reads, SpanView, SpelledSpan, WithinLimits, additions, bare_zero, cut, canonical_answer, duration_answer, duration_text, first_failed, older_additions, printed_text, result_view, strict_checks, value, weak_answer, weak_checks, without_whitespace};
 
 use humantime::laws::{
     canonical_again, joined, one_outcome, one_stamp_outcome, printed_bounds,
@@ -45,7 +45,7 @@ pub fn decided(text: &str) -> Result<StdDuration, DurationError<'_>>
     ensures value { (v : ℕ) → (result_view result ≡ Ok v) ↔ Accepted (chars text.now) v }
     ensures fault { (e : Fault) → (result_view result ≡ Err e) ↔ HasFault (chars text.now) e }
     ensures before { (v : ℕ) → AcceptedWithZeros (chars text.now) v → Accepted (chars text.now) v }
-    ensures still { WasAccepted (chars text.now) → IsOk result }
+    ensures still { ((v : ℕ) × AcceptedWithZeros (chars text.now) v) → IsOk result }
     ensures kept { (v : ℕ) → AcceptedWithZeros (chars text.now) v → duration_answer (chars text.now) ≡ Ok v }
     ensures added { (ss : List SpelledSpan) → older_additions ss ≡ additions ss }
 {
@@ -117,8 +117,8 @@ pub fn needs_no_space(text: &str, squeezed: &str) -> bool
 pub fn sum_of<'a>(a: &str, b: &str, both: &'a str) -> Result<StdDuration, DurationError<'a>>
     ensures first { IsZeroOrSpans (chars a.now) }
     ensures second { IsZeroOrSpans (chars b.now) }
-    ensures sum { (ss : List SpelledSpan) (ts : List SpelledSpan) (u : ℕ) (v : ℕ) → AcceptedAs (chars a.now) ss u → AcceptedAs (chars b.now) ts v → Accepted (chars a.now ++ chars b.now) (u + v) ↔ AllHaveRoom (additions ss ++ additions ts) }
-    ensures overflow { (ss : List SpelledSpan) (ts : List SpelledSpan) (u : ℕ) (v : ℕ) → AcceptedAs (chars a.now) ss u → AcceptedAs (chars b.now) ts v → HasFault (chars a.now ++ chars b.now) NumberOverflow ↔ ¬ (AllHaveRoom (additions ss ++ additions ts)) }
+    ensures sum { (ss : List SpelledSpan) (ts : List SpelledSpan) (u : ℕ) (v : ℕ) → Reads (chars a.now) ss × Accepted (chars a.now) u → Reads (chars b.now) ts × Accepted (chars b.now) v → Accepted (chars a.now ++ chars b.now) (u + v) ↔ AllHaveRoom (additions ss ++ additions ts) }
+    ensures overflow { (ss : List SpelledSpan) (ts : List SpelledSpan) (u : ℕ) (v : ℕ) → Reads (chars a.now) ss × Accepted (chars a.now) u → Reads (chars b.now) ts × Accepted (chars b.now) v → HasFault (chars a.now ++ chars b.now) NumberOverflow ↔ ¬ (AllHaveRoom (additions ss ++ additions ts)) }
     ensures one { (u : ℕ) (v : ℕ) → Accepted (chars a.now) u → Accepted (chars b.now) v → chars a.now ≢ bare_zero → chars b.now ≢ bare_zero → Accepted (chars a.now ++ chars b.now) (u + v) ⊎ HasFault (chars a.now ++ chars b.now) NumberOverflow }
     ensures either { (u : ℕ) (v : ℕ) → duration_answer (chars a.now) ≡ Ok u → duration_answer (chars b.now) ≡ Ok v → chars a.now ≢ bare_zero → chars b.now ≢ bare_zero → (duration_answer (chars a.now ++ chars b.now) ≡ Ok (u + v)) ⊎ (duration_answer (chars a.now ++ chars b.now) ≡ Err NumberOverflow) }
     ensures answer { both.now ≡ a.now ++ b.now → result_view result ≡ duration_answer (chars a.now ++ chars b.now) }
