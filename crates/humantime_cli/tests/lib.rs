@@ -36,7 +36,7 @@ fn assert_cut(rt: &impl Abort, words: &[&str], to_out: bool, taken: &[u8], step:
 
 /// Asserts that nothing is written after a failure, however many bytes of the line were accepted before it.
 fn assert_nothing_follows(rt: &impl Abort, words: &[&str], to_out: bool, line: &str) {
-    for failure in [Some(ErrorKind::Other), Some(ErrorKind::Interrupted), None] {
+    for failure in [Some(ErrorKind::Other), Some(ErrorKind::Interrupted), Some(ErrorKind::WouldBlock), Some(ErrorKind::TimedOut), None] {
         for step in [1, 4, ROOM] {
             for limit in 0..line.len() {
                 assert_cut(rt, words, to_out, &line.as_bytes()[..limit], step, failure);

@@ -16,7 +16,8 @@ fn print_duration(out: &mut Vec<u8>, err: &mut Vec<u8>) -> u8
 
 /// Prints the error message of a string that is not a valid duration.
 fn explain_fault(out: &mut Vec<u8>, err: &mut Vec<u8>) -> u8
-    ensures { result ≢ 3 → (result ≡ 1) × (out.new.items ≡ out.old.items) × (err.new.items ≡ err.old.items ++ codes "invalid character at 1\n") }
+    ensures whole { result ≢ 3 → (result ≡ 1) × (out.new.items ≡ out.old.items) × (err.new.items ≡ err.old.items ++ codes "invalid character at 1\n") }
+    ensures cut { result ≡ 3 → (out.new.items ≡ out.old.items) × ((n : ℕ) × (n < 23) × (err.new.items ≡ err.old.items ++ take n (codes "invalid character at 1\n"))) }
 {
     run(&["duration", "1~"], out, err)
 }

@@ -1,12 +1,12 @@
 -- What a caller of `run` can conclude for known arguments, if the bytes of both writers are known. The callers in the tests cite these
 -- facts. Each of them fails to prove if a definition or a clause of `run` is weakened.
 use Rattle.std.proofs.Common.{arith, ◌≡◌, ◌≢◌, ◌<◌, ℕ, ◌*◌, List, [], ◌∷◌, ◌++◌, length, take, subst, inl, inr, refl, ◌∙◌, append-nil}
-use Rattle.std.specs.Prelude.{ℤ, pos, Some, Ok, Err, codes}
+use Rattle.std.specs.Prelude.{ℤ, pos, Some, None, Result, Ok, Err, chars, codes}
 use Rattle.humantime.specs.declared.date.error.TimestampError.{TimestampError}
-use Rattle.humantime.specs.Prelude.{InvalidCharacter, nanos_per_second, moment_text, places_of, IsStrictMoment, first_failed, strict_checks}
+use Rattle.humantime.specs.Prelude.{Fault, HasFault, InvalidCharacter, IsCanonicalOf, IsPrinted, IsStrictMoment, IsWeakMoment, fault_message, first_failed, moment_text, nanos_per_second, places_of, strict_checks, timestamp_message, weak_checks}
 use Rattle.humantime.proofs.OnLiterals.{humantime_on_literals, timestamps_on_literals}
 use Rattle.humantime.proofs.Theorems.{canonical_again, one_stamp_outcome, printed_moment_reads, places_of_bound}
-use Rattle.humantime_cli.specs.Answers.{Answer, Answers, OneAnswer, Streams, streams, Ends, EndsWith, Whole, Cut, Duration, Strict, IsMomentOutput, outcome}
+use Rattle.humantime_cli.specs.Answers.{Answer, Answers, OneAnswer, Streams, streams, Ends, EndsWith, Whole, Cut, Duration, Strict, Weak, IsMomentOutput, outcome}
 use Rattle.humantime_cli.specs.Writes.{line}
 
 -- If the answer to the arguments is known, the program ends with it.
@@ -37,7 +37,40 @@ front_written (Whole zero taken told) three = absurd (omega (arith, zero, three)
 front_written (Cut three (inl fronts)) again = fronts
 front_written (Cut three (inr (kept, (n, before, taken)))) again = absurd (omega (arith, before))
 
--- The answers to the arguments of the callers.
+-- If the status is 3 after an error, nothing was printed, and a prefix of the message was written to standard error.
+front_explained : {message : List ℕ} {s : ℕ} {o n e m : List ℕ} → EndsWith (Some (Err message)) s (streams (Some o) (Some e)) (streams (Some n) (Some m)) → s ≡ 3
+    → (n ≡ o) × ((k : ℕ) × (k < length (line message)) × (m ≡ e ++ take k (line message)))
+front_explained (Whole one taken told) three = absurd (omega (arith, one, three))
+front_explained (Cut three (inl ((n, before, taken), kept))) again = absurd (omega (arith, before))
+front_explained (Cut three (inr fronts)) again = fronts
+
+-- ---- the answers to any arguments, and what is written for them
+
+any_outcome : (text : List ℕ) → (outcome (Some (Ok text)) ≡ (0, text ++ 10 ∷ [], [])) × (outcome (Some (Err text)) ≡ (1, [], text ++ 10 ∷ []))
+    × (outcome None ≡ (2, [], codes "usage: humantime duration|strict|weak TEXT\n"))
+any_outcome text = (refl, refl, refl)
+
+abbrev answered : List ℕ → List ℕ → Result (List ℕ) (List ℕ) → Type 0
+answered name text output = Answers (name ∷ text ∷ []) (Some output)
+
+any_text : (text shown : List ℕ) (t : ℤ) (fault : Fault) (e : TimestampError)
+    → (IsCanonicalOf text shown → answered (codes "duration") text (Ok shown))
+    × (HasFault (chars text) fault → answered (codes "duration") text (Err (fault_message fault)))
+    × (IsStrictMoment text t × IsPrinted t (places_of t) shown → answered (codes "strict") text (Ok shown))
+    × (IsWeakMoment text t × IsPrinted t (places_of t) shown → answered (codes "weak") text (Ok shown))
+    × (first_failed (strict_checks text) ≡ Some e → answered (codes "strict") text (Err (timestamp_message e)))
+    × (first_failed (weak_checks text) ≡ Some e → answered (codes "weak") text (Err (timestamp_message e)))
+any_text text shown t fault e = (
+  λ is. (_, Duration, text, refl, is),
+  λ is. (_, Duration, text, refl, (fault, is, refl)),
+  λ is. (_, Strict, text, refl, (t, is.0, is.1)),
+  λ is. (_, Weak, text, refl, (t, is.0, is.1)),
+  λ is. (_, Strict, text, refl, (e, is, refl)),
+  λ is. (_, Weak, text, refl, (e, is, refl)),
+)
+
+-- ---- the answers to the arguments of the callers
+
 duration_printed : Answers (codes "duration" ∷ codes "2h 37min" ∷ []) (Some (Ok (codes "2h 37m")))
 unfolding humantime_on_literals
 duration_printed = (codes "duration", Duration, codes "2h 37min", refl, ((canonical_again (codes "2h 37min")).text (codes "2h 37m")).0 refl)
@@ -71,6 +104,10 @@ printed_cut _ _ _ _ _ one ends three = front_written (ends_with _ (Some (Ok (cod
 -- The message of the error was printed.
 pub fault_printed : Ran (codes "duration" ∷ codes "1~" ∷ []) (Explained 1 (codes "invalid character at 1\n"))
 fault_printed _ _ _ _ _ one ends = explained (ends_with _ (Some (Err (codes "invalid character at 1"))) fault_explained one ends) refl
+
+-- With status 3, nothing was printed, and at most the first 22 of the 23 bytes of the message were written.
+pub fault_cut : Ran (codes "duration" ∷ codes "1~" ∷ []) (λ s o n e m. s ≡ 3 → (n ≡ o) × ((k : ℕ) × (k < 23) × (m ≡ e ++ take k (codes "invalid character at 1\n"))))
+fault_cut _ _ _ _ _ one ends three = front_explained (ends_with _ (Some (Err (codes "invalid character at 1"))) fault_explained one ends) three
 
 -- A timestamp in the strict form was printed.
 pub strict_printed : Ran (codes "strict" ∷ codes "2018-02-14T00:28:07Z" ∷ []) (Printed (codes "2018-02-14T00:28:07Z\n"))
