@@ -1,6 +1,6 @@
 -- A caret line stands under its part.
-use Rattle.std.proofs.Common.{◌≡◌, ◌+◌, ◌<◌, ◌⊎◌, ℕ, zero, suc, true, false, List, [], ◌∷◌, length, map, replicate, refl, ap, ◌∙◌, inl, inr, arith}
-use Rattle.std.specs.Prelude.{All, Option, slice_range}
+use Rattle.std.proofs.Common.{◌≡◌, ◌+◌, ◌<◌, ◌⊎◌, ℕ, zero, suc, true, false, List, [], ◌∷◌, ◌++◌, length, map, replicate, refl, ap, ◌∙◌, inl, inr, arith}
+use Rattle.std.specs.Prelude.{All, Bool, Option, None, Some, codes, decimal, if◌then◌else◌, nat_lt, option_map, slice_range, take, unwrap_or}
 use Rattle.std.specs.List.{before_first, join_with_byte, list_all, slice_split}
 use Rattle.std.proofs.lemmas.List.{length-replicate}
 use Rattle.std.proofs.lemmas.List.Elements.{All-append, All-cons, All-nil, All-replicate}
@@ -11,7 +11,7 @@ use Rattle.std.specs.Str.{IsAscii}
 use Rattle.unicode_width.specs.Width.{str_width}
 use Rattle.unicode_width.proofs.Rules.{str_width-printable}
 use Rattle.humantime_std.specs.Carets.{blanks, caret_line, columns, is_line_feed, is_tab, line_number, report_text}
-use Rattle.humantime_uses.specs.CaretColumns.{ShowsRange, StandsUnder, column_of_pieces, line_after, line_before}
+use Rattle.humantime_uses.specs.CaretColumns.{ShowsRange, StandsUnder, column_of_pieces, line_after, line_before, line_feeds}
 
 ascii : (n : ℕ) → IsAscii (replicate n 32)
 ascii zero i = omega arith
@@ -63,6 +63,12 @@ stands_under before part =
       begins = λ stop column. ap (column_of_pieces stop column) split ∙ same_column stop column pieces;
     }
 
+-- The text before a message is empty, or has the number of the line.
+numbered_text : (several : Bool) (n : ℕ) → unwrap_or (option_map (λ k. codes "line " ++ (decimal k ++ codes ": ")) (if several then Some n else None)) []
+    ≡ (if several then codes "line " ++ (decimal n ++ codes ": ") else [])
+numbered_text true n = refl
+numbered_text false n = refl
+
 -- A report shows a range, if its parts are those of the line of the range.
 pub shows_range : (text message lines before part rest : List ℕ) (number : Option ℕ) (start end : ℕ) → number ≡ line_number text start
     → (before ≡ line_before text start) × (part ≡ before_first is_line_feed (slice_range text start end)) × (rest ≡ line_after text start)
@@ -70,5 +76,5 @@ pub shows_range : (text message lines before part rest : List ℕ) (number : Opt
 shows_range text message lines before part rest number start end numbered is whole = record {
   carets = caret_line before part;
   under = rw (← is.0, ← is.1) (stands_under before part);
-  whole = rw (← numbered, ← is.0, ← is.2) whole;
+  whole = rw (← numbered_text (nat_lt 0 (line_feeds text)) (line_feeds (take start text) + 1), ← numbered, ← is.0, ← is.2) whole;
 }
