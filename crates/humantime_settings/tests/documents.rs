@@ -67,15 +67,21 @@ const JSON: &[Case<'static>] = &[
     (r#"{"timeout":null}"#, 1, 12, "", "expected a duration in quotes"),
     (r#"{"timeout":"2h","days":{"a":null}}"#, 1, 29, "", "expected a timestamp in quotes"),
     (r#"{"timeout":"2h","zone":90}"#, 1, 24, "", "expected a timestamp in quotes"),
+    (r#"{"timeout":"2h","counts":[1,true]}"#, 1, 29, "", "invalid type: boolean `true`, expected an integer"),
+    (r#"{"timeout":"2h","counts":[1, null]}"#, 1, 30, "", "invalid type: null, expected an integer"),
+    (r#"{"timeout":"2h","counts":["2"]}"#, 1, 27, "", "invalid type: string \"2\", expected an integer"),
     // Values of a wrong type for fields that are not of this crate.
     (r#"{"timeout":"2h","counts":[[2]]}"#, 1, 27, "", "invalid type: sequence, expected an integer"),
     (r#"{"timeout":"2h","counts": {}}"#, 1, 27, "", "invalid type: map, expected a sequence"),
+    (r#"{"timeout":"2h","more.every":-7}"#, 1, 30, "", "invalid type: integer `-7`, expected a string"),
+    (r#"{"timeout":"2h","job":false}"#, 1, 23, "", "invalid type: boolean `false`, expected a map"),
     // A number that does not fit, and a key that stands twice.
     (r#"{"counts":[1, 9223372036854775808 ]}"#, 1, 15, "", "invalid value: integer `9223372036854775808`, expected an integer in range"),
     ("{\"timeout\":\"2h\",\n \"timeout\" :\n\"2h\"}", 2, 2, "", "duplicate field `timeout`"),
     // A field that stands twice, whose value is read first or not, and is a string, a list or a map; and a key with an escape.
     ("{\"timeout\":\"2h\",\"time\\u006fut\":\"\\\"\"}", 1, 17, "", "duplicate field `timeout`"),
     (r#"{"limit":"1s","timeout":"2h"}"#, 1, 15, "", "duplicate field `timeout`"),
+    (r#"{"job":{"name":"a","name":"b"}}"#, 1, 20, "", "duplicate field `name`"),
     (r#"{"waits":["1s"],"waits":["2s"]}"#, 1, 17, "", "duplicate field `waits`"),
     (r#"{"ends":{},"ends":{"a":"2018-02-14 00:28:07"}}"#, 1, 12, "", "duplicate field `ends`"),
     // What is missing, unknown or cut.
@@ -87,12 +93,14 @@ const JSON: &[Case<'static>] = &[
     (r#"{"waits":["1s","2s 1~"]}"#, 1, 21, "~", "invalid character at 4"),
     (r#"{"waits":["1s",null]}"#, 1, 16, "", "expected a duration in quotes"),
     (r#"{"ends":{"a":1}}"#, 1, 14, "", "expected a timestamp in quotes"),
+    (r#"{"waits":"1s"}"#, 1, 10, "", "invalid type: string \"1s\", expected a sequence"),
     (r#"{"waits":null}"#, 1, 10, "", "invalid type: null, expected a sequence"),
     // At most one byte.
     ("", 1, 1, "", "EOF while parsing"),
     ("{", 1, 2, "", "EOF while parsing"),
     (r#"""#, 1, 1, "", "invalid string"),
     ("}", 1, 1, "", "expected value"),
+    ("7", 1, 1, "", "invalid type: integer `7`, expected a map"),
     // A byte order mark is no JSON.
     ("\u{feff}{}", 1, 1, "", "expected value"),
 ];
@@ -138,16 +146,24 @@ const TOML: &[Case<'static>] = &[
     // A header makes a map, and one in two brackets a list.
     ("timeout = '2h'\nJOB\n[counts]\na = 1\n", 6, 1, "", "invalid type: map, expected a sequence"),
     ("timeout = '2h'\nJOB\n[['more.every']]\n[['more.every']]\n", 6, 1, "", "invalid type: sequence, expected a string"),
+    ("timeout = inf\nJOB", 1, 11, "", "expected a duration in quotes"),
     // Numbers that JSON does not have, and texts that it has for them.
     ("timeout = '2h'\nJOB\nkeep = -nan # null\n", 6, 8, "", "expected a duration in quotes"),
     ("timeout = '2h'\nx = [nan, ',null,', -inf]\nnull = [[nan], inf]\nzone = 5\nJOB", 4, 8, "", "expected a timestamp in quotes"),
     // Items of one list, of different types: the first that is no integer.
     ("timeout = '2h'\ncounts = [ 1, true, 2.5 ]\nJOB", 2, 15, "", "invalid type: boolean `true`, expected an integer"),
+    ("timeout = '2h'\ncounts = [ 1, 2.5, true ]\nJOB", 2, 15, "", "invalid type: floating point `2.5`, expected an integer"),
+    ("timeout = '2h'\ncounts = [ 1, 2.0, true ]\nJOB", 2, 15, "", "invalid type: floating point `2.0`, expected an integer"),
+    ("timeout = '2h'\ncounts = [ 1, { a = 1 } ]\nJOB", 2, 15, "", "invalid type: map, expected an integer"),
+    ("timeout = '2h'\ncounts = [ 1, 1979-05-27 ]\nJOB", 2, 15, "", "invalid type: datetime, expected an integer"),
+    ("timeout = '2h'\ncounts = [1, 2.0]\nJOB", 2, 14, "", "invalid type: floating point `2.0`, expected an integer"),
     ("timeout = '2h'\npairs = [[1], -1]\nJOB", 2, 15, "", "invalid type: integer `-1`, expected a sequence"),
     ("timeout = '2h'\nends.a = ['2018-02-14 00:28:07']\nJOB", 2, 10, "", "expected a timestamp in quotes"),
+    ("timeout = '2h'\ncounts = [1, [2]]\nJOB", 2, 14, "", "invalid type: sequence, expected an integer"),
     // An item that is an array of the wrong type, and not the array that it is in.
     ("timeout = '2h'\ncounts = [1, [[2], 3], [4]]\nJOB", 2, 14, "", "invalid type: sequence, expected an integer"),
     ("timeout = '2h'\npairs = [[1], [1, 2], [[1], 2], [[3]]]\nJOB", 2, 24, "", "invalid type: sequence, expected an integer"),
+    ("timeout = '2h'\npairs = [[1], 1, [true]]\nJOB", 2, 15, "", "invalid type: integer `1`, expected a sequence"),
     ("timeout = '2h'\ncounts = [0x1F, +1_0, -2, 9_9.5]\nJOB", 2, 27, "", "invalid type: floating point `99.5`, expected an integer"),
     // Two values whose keys have the same text: the one that has the error.
     ("timeout = '2h'\n'more.every' = 'x'\nJOB\n[[more]]\nname = 'a'\nevery = '5 é'\nsince = '2018-02-14 00:28:07'\n", 9, 12, "é", "invalid character at 2"),

@@ -4,6 +4,7 @@
 mod attributes;
 mod documents;
 mod drawn;
+mod marks;
 mod refused;
 pub(crate) mod support;
 mod toml_keys;

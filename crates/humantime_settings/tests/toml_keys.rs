@@ -32,8 +32,8 @@ enum Either { Count(u32), Mode(Mode), Numbers(BTreeMap<i64, u32>) }
 #[serde(deny_unknown_fields)]
 struct Whole {
     counts: Option<BTreeMap<Wait, u32>>, waits: Option<BTreeMap<Wait, Wait>>, texts: Option<BTreeMap<String, Wait>>, part: Option<Part>,
-    outers: Option<Vec<Outer>>, mode: Option<Mode>, modes: Option<Vec<Mode>>, wait: Option<Wait>, rates: Option<Vec<f32>>,
-    either: Option<Either>, eithers: Option<Vec<Either>>, numbers: Option<Vec<BTreeMap<i64, Wait>>>, mixed: Option<Vec<BTreeMap<String, Either>>>,
+    outers: Option<Vec<Outer>>, mode: Option<Mode>, modes: Option<Vec<Mode>>, wait: Option<Wait>, pair: Option<(u32, u32)>,
+    rates: Option<Vec<f32>>, either: Option<Either>, eithers: Option<Vec<Either>>, numbers: Option<Vec<BTreeMap<i64, Wait>>>, mixed: Option<Vec<BTreeMap<String, Either>>>,
 }
 
 fn read(alloc: Global, text: &str) -> Option<SettingsError> {
@@ -50,7 +50,7 @@ const KEYS: &[Case<'static>] = &[
     ("counts.'1~'.a = 1\ncounts.'1~'.b = 1\ncounts.'1~'.c = 1\ncounts.'1~'.d = 1\ncounts.'1~'.e = 1\ncounts.'1~'.f = 1\ncounts.'1~'.g = 1\ncounts.'1~'.h = 1\ncounts.'1~'.i = 1\n", 1, 10, "~", "invalid character at 1"),
     // A key that would be no duration, and keys whose text is the same.
     ("texts.x = '~'", 1, 12, "~", "expected number at 0"),
-    ("'part.every' = 1", 1, 1, "", "unknown field `part.every`, expected one of `counts`, `waits`, `texts`, `part`, `outers`, `mode`, `modes`, `wait`, `rates`, `either`, `eithers`, `numbers`, `mixed`"),
+    ("'part.every' = 1", 1, 1, "", "unknown field `part.every`, expected one of `counts`, `waits`, `texts`, `part`, `outers`, `mode`, `modes`, `wait`, `pair`, `rates`, `either`, `eithers`, `numbers`, `mixed`"),
     // Keys that `toml` uses for dates, and that look like its messages.
     ("texts = { '$__toml_private_datetime' = '1~' }", 1, 42, "~", "invalid character at 1"),
     ("texts = { \"a\\nin `b\" = '1~' }", 1, 26, "~", "invalid character at 1"),
@@ -74,28 +74,45 @@ const KEYS: &[Case<'static>] = &[
     ("wait.x = 1\nwait.y = 2\n", 1, 1, "", "expected a duration in quotes"),
     ("[wait.x]\n", 1, 2, "", "expected a duration in quotes"),
     ("part.every.x = 1\n", 1, 6, "", "expected a duration in quotes"),
-    ("wait = '1s'\nwiat.x = 1\n", 2, 1, "", "unknown field `wiat`, expected one of `counts`, `waits`, `texts`, `part`, `outers`, `mode`, `modes`, `wait`, `rates`, `either`, `eithers`, `numbers`, `mixed`"),
-    ("[wiat.x]\n", 1, 2, "", "unknown field `wiat`, expected one of `counts`, `waits`, `texts`, `part`, `outers`, `mode`, `modes`, `wait`, `rates`, `either`, `eithers`, `numbers`, `mixed`"),
-    ("[wiat]\n", 1, 2, "", "unknown field `wiat`, expected one of `counts`, `waits`, `texts`, `part`, `outers`, `mode`, `modes`, `wait`, `rates`, `either`, `eithers`, `numbers`, `mixed`"),
+    ("wait = '1s'\nwiat.x = 1\n", 2, 1, "", "unknown field `wiat`, expected one of `counts`, `waits`, `texts`, `part`, `outers`, `mode`, `modes`, `wait`, `pair`, `rates`, `either`, `eithers`, `numbers`, `mixed`"),
+    ("[wiat.x]\n", 1, 2, "", "unknown field `wiat`, expected one of `counts`, `waits`, `texts`, `part`, `outers`, `mode`, `modes`, `wait`, `pair`, `rates`, `either`, `eithers`, `numbers`, `mixed`"),
+    ("[wiat]\n", 1, 2, "", "unknown field `wiat`, expected one of `counts`, `waits`, `texts`, `part`, `outers`, `mode`, `modes`, `wait`, `pair`, `rates`, `either`, `eithers`, `numbers`, `mixed`"),
     ("[[outers]]\npart.every = 5\n[[outers]]\n[outers.part.every]\n", 2, 14, "", "expected a duration in quotes"),
+    ("mode = 'Slwo'", 1, 8, "", "unknown variant `Slwo`, expected `Fast` or `Slow`"),
+    ("mode = { Slwo = 1 }", 1, 10, "", "unknown variant `Slwo`, expected `Fast` or `Slow`"),
     // The name of a variant is marked as a string and as a key.
     ("mode.Slwo = 1", 1, 6, "", "unknown variant `Slwo`, expected `Fast` or `Slow`"),
     ("[mode]\nSlwo = 1", 2, 1, "", "unknown variant `Slwo`, expected `Fast` or `Slow`"),
+    ("modes = ['Fast', 'Slwo', 'Slwo']", 1, 18, "", "unknown variant `Slwo`, expected `Fast` or `Slow`"),
+    ("modes = ['Fast', 'Slwo']", 1, 18, "", "unknown variant `Slwo`, expected `Fast` or `Slow`"),
+    ("modes = ['Slwo', 'Fast', 'Fast']", 1, 10, "", "unknown variant `Slwo`, expected `Fast` or `Slow`"),
     ("modes = ['Fast', 'Slwo', 'Fast', 'Fast', 'Fast', 'Fast']", 1, 18, "", "unknown variant `Slwo`, expected `Fast` or `Slow`"),
     ("modes = ['Slwo', { Slwo = 1 }]", 1, 10, "", "unknown variant `Slwo`, expected `Fast` or `Slow`"),
+    ("modes = [{ Slow = 1 }, { Slwo = 2 }, { Slwo = 3 }]", 1, 26, "", "unknown variant `Slwo`, expected `Fast` or `Slow`"),
+    ("pair = [1]", 1, 8, "", "invalid length 1"),
     // Of other errors, the value that has it.
     ("counts = 1979-05-27", 1, 10, "", "invalid type: datetime, expected a map"),
+    ("mode = 1979-05-27", 1, 8, "", "invalid type: datetime, expected a map"),
+    ("pair = [1, 2, 3]", 1, 8, "", "invalid length 3, expected a tuple of size 2"),
+    ("either = 'x'", 1, 10, "", "data did not match any variant of untagged enum"),
     ("either.x = 1\neither.y = 2", 1, 1, "", "data did not match any variant of untagged enum"),
+    ("eithers = [1, 'x', 2]", 1, 15, "", "data did not match any variant of untagged enum"),
     ("mode = { Fast = {} }\nwait = 5", 2, 8, "", "expected a duration in quotes"),
     ("modes = [{ Fast = {} }, { Fast = 5 }]", 1, 34, "", "invalid type: integer `5`, expected unit"),
+    ("modes = ['Fast', { Fast = 5 }]", 1, 27, "", "invalid type: integer `5`, expected unit"),
     ("rates = [1e300, 1, -1e-300, inf, '1']", 1, 34, "", "invalid type: string \"1\", expected f32"),
+    ("[[eithers]]\nx = 1\n[[eithers]]\nx = 1\n", 1, 1, "", "data did not match any variant of untagged enum"),
     // The key of a map of integers, and its value.
     ("numbers = [{ 5 = '1s' }, { 5 = '1~' }]", 1, 34, "~", "invalid character at 1"),
     ("numbers = [{ 5 = '1s' }, { x = '1s' }]", 1, 28, "", "invalid type: string \"x\", expected an integer"),
     // Behind an integer key in another form, or an empty table of a variant.
     ("numbers = [{ '+5' = '1s' }, { '+5' = '1~' }]", 1, 40, "~", "invalid character at 1"),
+    ("numbers = [{ '+5' = '1s' }, { x = '1s' }]", 1, 31, "", "invalid type: string \"x\", expected an integer"),
     ("[[numbers]]\n007 = '1s'\n[[numbers]]\n007 = 5", 4, 7, "", "expected a duration in quotes"),
+    ("numbers = [{ -0 = '1s' }, { -0 = 5 }]", 1, 34, "", "expected a duration in quotes"),
+    ("mixed = [{ a = { 5 = 1 } }, { a = 'x' }]", 1, 35, "", "data did not match any variant of untagged enum"),
     ("mixed = [{ a = { Fast = {} } }, { a = 'x' }]", 1, 39, "", "data did not match any variant of untagged enum"),
+    ("mixed = [{ a = { '+5' = 1 } }, { a = 'x' }]", 1, 38, "", "data did not match any variant of untagged enum"),
 ];
 
 #[test]
@@ -110,4 +127,26 @@ fn errors_of_keys_in_json(rt: HostRuntime) -> Result<(), Fail> {
         (r#"{"counts":{"1s ~":1}}"#, 1, 16, "~", "expected number at 3"),
         (r#"{"mode":"Slwo"}"#, 1, 9, "", "unknown variant `Slwo`, expected `Fast` or `Slow`"),
     ])
+}
+
+#[test]
+fn long_keys(rt: HostRuntime) -> Result<(), Fail> {
+    let alloc = rt.alloc();
+    // Keys of many bytes, also with wide characters.
+    for (count, end) in [(74, ""), (75, ""), (76, ""), (77, ""), (80, ""), (81, ""), (200, ""), (300, ""), (70, "ékkkk"), (68, "𝄞kkkk")] {
+        let key = format!(in alloc; "{}{end}", "k".repeat(alloc, count)?)?;
+        for (lines, line, column, marked, message) in [
+            ("'K' = '~'", 2, 7, "~", "expected number at 0"),
+            ("'K' = 5", 2, 6, "", "expected a duration in quotes"),
+            ("'Ka' = '1s'\n'Kb' = 5", 3, 7, "", "expected a duration in quotes"),
+            // Of two wrong values, the one whose key sorts first.
+            ("'Kb' = '~'\n'Ka' = '~'\n'Kc' = '~'", 3, 8, "~", "expected number at 0"),
+            ("'Kb' = 1\n'Kc' = 2\n'Ka' = 3", 4, 7, "", "expected a duration in quotes"),
+        ] {
+            let text = format!(in alloc; "[texts]\n{lines}")?.replace(alloc, "K", &key)?;
+            let column = key.chars().count() + column;
+            assert_errors(&rt, read, "", &[(text.as_str(), line, column, marked, message)])?;
+        }
+    }
+    Ok(())
 }
