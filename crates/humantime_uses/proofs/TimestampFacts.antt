@@ -8,7 +8,7 @@ use Rattle.std.proofs.lemmas.Bool.Decides.{nat_tests}
 use Rattle.std.proofs.lemmas.Int.{ints}
 use Rattle.humantime.specs.declared.date.error.TimestampError.{TimestampError}
 use Rattle.humantime.specs.declared.date.error.TimestampError.TheVariants.{OutOfRange, InvalidDigit, InvalidFormat}
-use Rattle.humantime.specs.Prelude.{cut, places_of, IsPrintable, IsPrinted}
+use Rattle.humantime.specs.Prelude.{cut, places_of, IsPrintable, IsPrinted, IsStrictMoment, IsWeakMoment, ReadsAs}
 use Rattle.humantime.specs.Characters.{decimal_value}
 use Rattle.humantime.specs.Calendar.{IsDate, days_in_month, is_valid, day_of}
 use Rattle.humantime.specs.Timestamps.{date_time_of, ends_in_zone, first_failed, fraction_part, has_two, is_valid_date_time, strict_checks, weak_checks, Fields, Separator, Letter_T, Space, Zone, NoZone, Letter_Z, ZeroOffset, IsStrict, IsWeak, fields_text, fraction_digits, fraction_nanos, fraction_text, moment_of, separator_byte, zone_text}
@@ -124,6 +124,10 @@ printed_form t k text = (
   λ p. (p.few, (p.fields, p.weak, p.separator, p.zone, p.second, p.places, p.moment)),
   λ h. record { few = h.0; fields = h.1.0; weak = h.1.1; separator = h.1.2; zone = h.1.3; second = h.1.4; places = h.1.5; moment = h.1.6 },
 )
+
+-- Its moment is represented in both forms.
+both_forms : (text : List ℕ) (t : ℤ) → ReadsAs text t ↔ (IsStrictMoment text t × IsWeakMoment text t)
+both_forms text t = (λ r. (r.strict, r.weak), λ h. record { strict = h.0; weak = h.1 })
 
 printable : (t : ℤ) → IsPrintable t ↔ ((pos 0 ≤ℤ t) × (t <ℤ pos 253_402_300_800_000_000_000))
 printable t = (λ h. h, λ h. h)
