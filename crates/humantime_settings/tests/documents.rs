@@ -95,6 +95,9 @@ const JSON: &[Case<'static>] = &[
     (r#"{"ends":{"a":1}}"#, 1, 14, "", "expected a timestamp in quotes"),
     (r#"{"waits":"1s"}"#, 1, 10, "", "invalid type: string \"1s\", expected a sequence"),
     (r#"{"waits":null}"#, 1, 10, "", "invalid type: null, expected a sequence"),
+    // A wrong value before the place from which on the text is not JSON.
+    ("{\"timeout\": \"1m 9parsecs\", \"x\": }", 1, 18, "parsecs", "unknown time unit \"parsecs\", supported units: ns, us/µs, ms, sec, min, hours, days, weeks, months, years (and few variations)"),
+    (r#"{"timeout": 5, x}"#, 1, 13, "", "expected a duration in quotes"),
     // At most one byte.
     ("", 1, 1, "", "EOF while parsing"),
     ("{", 1, 2, "", "EOF while parsing"),
