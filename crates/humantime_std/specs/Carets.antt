@@ -24,7 +24,7 @@ caret_line before part = blanks before ++ replicate (max (columns part) 1) (byte
 abbrev pub is_line_feed : ℕ → Bool
 is_line_feed b = b == byte "\n"
 
--- Returns the number of the line of an offset, from 1, or `None` if the text has only one line.
+-- Returns the number of the line of an offset, from 1, or `None` if the text has no line feed.
 abbrev pub line_number : List ℕ → ℕ → Option ℕ
 line_number text at = if nat_lt 0 (count_by is_line_feed text) then Some (count_by is_line_feed (take at text) + 1) else None
 

@@ -47,7 +47,7 @@ impl Display for Underline<'_> {
 /// An error with the line of the string in which it is, as [`report`](super::Located::report) returns it.
 ///
 /// `Display` writes the message, the line, and a caret line under it, both after two spaces. There is no line feed at the end. If the string has
-/// several lines, the message follows the number of the line, as in `line 2: value was empty`. Control characters are written as they are.
+/// a line feed, the message follows the number of the line, as in `line 2: value was empty`. Control characters are written as they are.
 ///
 /// # Examples
 ///
@@ -63,7 +63,7 @@ impl Display for Underline<'_> {
 pub struct Report<'a, E> {
     /// The error.
     pub error: E,
-    /// The number of the line, from 1, or `None` if the string has only one line.
+    /// The number of the line, from 1, or `None` if the string has no line feed.
     pub number: Option<usize>,
     /// The line up to the error, and its part that is wrong.
     pub underline: Underline<'a>,
