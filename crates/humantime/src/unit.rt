@@ -20,7 +20,7 @@ pub(crate) const SECONDS_PER_HOUR: u64 = 3_600;
 
 pub(crate) const SECONDS_PER_DAY: u64 = 86_400;
 
-pub(crate) const SECONDS_PER_WEEK: u64 = 604_800;
+const SECONDS_PER_WEEK: u64 = 604_800;
 
 /// A month of 30.44 days.
 pub(crate) const SECONDS_PER_MONTH: u64 = 2_630_016;

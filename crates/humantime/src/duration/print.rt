@@ -33,7 +33,7 @@ impl<'b> Writer<'b> {
 
     /// Creates a writer to `bytes` that has written nothing yet.
     #[inline(always)]
-    pub(crate) fn new(bytes: &'b mut [u8]) -> Writer<'b>
+    fn new(bytes: &'b mut [u8]) -> Writer<'b>
         ensures same_reference { result.bytes.ghost_name ≡ bytes.entry.ghost_name }
         ensures room { length result.bytes.now ≡ length bytes.old }
         ensures end { result.end ≡ 0 }
@@ -73,7 +73,7 @@ impl<'b> Writer<'b> {
 
     /// Appends a count and its unit, preceded by a space unless nothing has been written yet. A count of zero is left out.
     #[inline(always)]
-    pub(crate) fn push_count(&mut self, count: u64, unit: &str)
+    fn push_count(&mut self, count: u64, unit: &str)
         requires fits { self.old.end + 1 + most_bytes count (unit.now, false) ≤ length self.old.bytes.now }
         ensures { AppendsCount self.old self.new count (unit.now, false) }
     {
@@ -89,7 +89,7 @@ impl<'b> Writer<'b> {
 
     /// Appends a count and its unit as `push_count` does, with an `s` after the unit if the count is above 1.
     #[inline(always)]
-    pub(crate) fn push_plural(&mut self, count: u64, unit: &str)
+    fn push_plural(&mut self, count: u64, unit: &str)
         requires fits { self.old.end + 1 + most_bytes count (unit.now, true) ≤ length self.old.bytes.now }
         ensures { AppendsCount self.old self.new count (unit.now, true) }
     {
@@ -101,7 +101,7 @@ impl<'b> Writer<'b> {
 
     /// Appends `0s` if nothing has been written yet.
     #[inline(always)]
-    pub(crate) fn push_zero_if_empty(&mut self)
+    fn push_zero_if_empty(&mut self)
         requires { 2 ≤ length self.old.bytes.now }
         ensures { HasWritten self.old self.new (if length (written self.old) == 0 then codes "0s" else written self.old) }
     {
@@ -112,7 +112,7 @@ impl<'b> Writer<'b> {
 
     /// Returns the number of bytes written.
     #[inline(always)]
-    pub(crate) fn finish(self) -> usize
+    fn finish(self) -> usize
         ensures most { result ≤ length self.entry.bytes.now }
         ensures text { take result self.exit.0.now ≡ written self.entry }
         ensures utf8 { IsUtf8 (take result self.exit.0.now) }

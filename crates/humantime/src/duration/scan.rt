@@ -45,7 +45,7 @@ fn skip_non_ascii_whitespace(text: &str, at: usize) -> Option<usize>
 /// A character must begin at `at`, so `at` is less than the length of the string.
 #[inline(always)]
 #[tactic(auto, using(crate::proofs::Offsets::whitespace_at))]
-pub(crate) fn skip_whitespace_char(text: &str, at: usize) -> Option<usize>
+fn skip_whitespace_char(text: &str, at: usize) -> Option<usize>
     requires { IsCharStartIn text.now at }
     ensures { IsAfterWhitespace text.now at result }
 {
@@ -89,7 +89,7 @@ pub(crate) fn skip_whitespace(text: &str) -> &str
 /// Returns `true` if the string begins with an ASCII digit.
 #[inline(always)]
 #[tactic(auto, using(crate::proofs::Offsets::first))]
-pub(crate) fn begins_with_digit(text: &str) -> bool
+fn begins_with_digit(text: &str) -> bool
     ensures { result ≡ begins is_digit (chars text.now) }
 {
     let bytes = text.as_bytes();
@@ -100,7 +100,7 @@ pub(crate) fn begins_with_digit(text: &str) -> bool
 /// value does not fit in a `u64`. The string must begin with a digit.
 #[inline(always)]
 #[tactic(auto, using(crate::proofs::Offsets::rests, crate::proofs::SpanParts::numbers))]
-pub(crate) fn read_number(text: &str) -> Option<(Number<'_>, &str)>
+fn read_number(text: &str) -> Option<(Number<'_>, &str)>
     requires { begins is_digit (chars text.now) ≡ true }
     ensures read { read_view number_view result ≡ reader.read_number (chars text.now) }
     ensures rest { IfSome result (λ x. IsTail text.now x.1.now) }
@@ -130,7 +130,7 @@ pub(crate) fn read_number(text: &str) -> Option<(Number<'_>, &str)>
 /// Returns what follows the decimal point at the start of the string, or `None` if there is no point.
 #[inline(always)]
 #[tactic(auto, using(crate::proofs::Offsets::first), unfolding(crate::specs::Characters::is_point))]
-pub(crate) fn skip_point(text: &str) -> Option<&str>
+fn skip_point(text: &str) -> Option<&str>
     ensures read { option_map (λ t. chars t.now) result ≡ after_point (chars text.now) }
     ensures rest { IfSome result (λ t. IsTail text.now t.now) }
 {
@@ -144,7 +144,7 @@ pub(crate) fn skip_point(text: &str) -> Option<&str>
 /// with this part of the string, and the rest, or `None` if there are more than 19 digits before the trailing zeros.
 #[inline(always)]
 #[tactic(auto, using(crate::proofs::Offsets::rests, crate::proofs::Characters::digit_is))]
-pub(crate) fn read_fraction(text: &str) -> Option<((Fraction, &str), &str)>
+fn read_fraction(text: &str) -> Option<((Fraction, &str), &str)>
     ensures read { read_view (λ f. (parts_of f.0, chars f.1.now)) result ≡ reader.read_fraction (chars text.now) }
     ensures rest { IfSome result (λ x. IsTail text.now x.1.now) }
 {
@@ -167,7 +167,7 @@ pub(crate) fn read_fraction(text: &str) -> Option<((Fraction, &str), &str)>
 /// Returns the letters (ASCII, `µ` or `μ`) at the start of the string, if any, and the rest.
 #[inline(always)]
 #[tactic(auto, using(crate::proofs::Offsets::letters))]
-pub(crate) fn split_word(text: &str) -> (&str, &str)
+fn split_word(text: &str) -> (&str, &str)
     ensures word { chars result.0.now ≡ take_while is_letter (chars text.now) }
     ensures read { chars result.1.now ≡ drop_while is_letter (chars text.now) }
     ensures whole { text.now ≡ result.0.now ++ result.1.now }
@@ -203,7 +203,7 @@ fn is_bare_point(fraction: Fraction, rest: &str) -> bool
 /// It skips one character, since there is usually only one before the next digit. `skip_whitespace` skips the others.
 #[inline(always)]
 #[tactic(auto, using(crate::proofs::Offsets::span_ends))]
-pub(crate) fn skip_span_end(text: &str) -> Option<&str>
+fn skip_span_end(text: &str) -> Option<&str>
     ensures read { option_map (λ t. chars t.now) result ≡ reader.skip_span_end (chars text.now) }
     ensures rest { IfSome result (λ t. IsTail text.now t.now) }
 {
