@@ -290,13 +290,13 @@ pub fn next_delay(delay: StdDuration, factor: u64, most: StdDuration) -> StdDura
 ///
 /// ```
 /// use humantime::{DurationError, parse_duration};
-/// use humantime_std::offset;
+/// use humantime_std::error_offset;
 ///
 /// let error = parse_duration("2h 37mi").expect_err(&rt, "no such unit");
-/// assert_eq!(rt; offset(&error), Some(5));
-/// assert_eq!(rt; offset(&DurationError::NumberOverflow), None);
+/// assert_eq!(rt; error_offset(&error), Some(5));
+/// assert_eq!(rt; error_offset(&DurationError::NumberOverflow), None);
 /// ```
-pub fn offset(error: &DurationError<'_>) -> Option<usize>
+pub fn error_offset(error: &DurationError<'_>) -> Option<usize>
     ensures { result ≡ place_of (fault_of error.now) }
 {
     match error {

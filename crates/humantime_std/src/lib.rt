@@ -23,6 +23,6 @@ pub mod located;
 mod times;
 
 pub use clocks::{deadline, elapsed, now, sleep, time_left};
-pub use durations::{StdDurationExt, next_delay, offset};
+pub use durations::{StdDurationExt, error_offset, next_delay};
 pub use located::{Located, Report, Underline};
 pub use times::{SystemTimeExt, next_run};

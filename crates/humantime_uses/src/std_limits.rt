@@ -9,7 +9,7 @@ ghost use Rattle.humantime_std.specs.Schedule.{IsDue, IsNextRun};
 use humantime::{DurationError, StdDuration, SystemTime};
 use humantime_std::located::{self, parse_rfc3339_weak};
 use humantime_std::{
-    StdDurationExt, SystemTimeExt, deadline, next_delay, next_run, offset, time_left,
+    StdDurationExt, SystemTimeExt, deadline, error_offset, next_delay, next_run, time_left,
 };
 use std::time::Instant;
 
@@ -88,7 +88,7 @@ pub fn share(part: StdDuration, whole: StdDuration) -> Option<u128>
     (part.as_nanos() * 100).checked_div(whole.as_nanos())
 }
 
-/// Returns the part of a string that the error of the weak parser marks, or `None` if there is no error.
+/// Returns the part of a string that is wrong by the error of the weak parser, or `None` if there is no error.
 pub fn wrong_part(text: &str) -> Option<&str>
     ensures { option_map (λ part. part.now) result ≡ option_map (λ error. slice_range text.now error.start error.end) (weak_error text.now) }
 {
@@ -97,17 +97,17 @@ pub fn wrong_part(text: &str) -> Option<&str>
 }
 
 /// Returns the offset of an error, if it has one.
-pub fn error_offset(error: &DurationError<'_>) -> Option<usize>
+pub fn offset_of_error(error: &DurationError<'_>) -> Option<usize>
     ensures character { (at : ℕ) → fault_of error.now ≡ InvalidCharacter at → result ≡ Some at }
     ensures number { (at : ℕ) → fault_of error.now ≡ NumberExpected at → result ≡ Some at }
     ensures unit { (at : ℕ) (end : ℕ) (unit : List ℕ) (value : ℕ) → fault_of error.now ≡ UnknownUnit at end unit value → result ≡ Some at }
     ensures overflow { fault_of error.now ≡ NumberOverflow → result ≡ None }
     ensures empty { fault_of error.now ≡ Empty → result ≡ Some 0 }
 {
-    offset(error)
+    error_offset(error)
 }
 
-/// Returns the range that the error of a duration marks, or `None` if there is no error.
+/// Returns the range of the error of a duration, or `None` if there is no error.
 pub fn wrong_range(text: &str) -> Option<(usize, usize)>
     ensures none { IsNone result ↔ IsOk (duration_answer (chars text.now)) }
     ensures place { (e : Fault) → duration_answer (chars text.now) ≡ Err e → IfSome result (λ range. IsFaultRange text.now e range.0 range.1) }
