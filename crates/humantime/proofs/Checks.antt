@@ -16,7 +16,7 @@ use Rattle.std.proofs.lemmas.Simd.{mask_l-mod, tops_compared, length-zip2, zip2_
 use native.Mathlib.Nat.{two-pow-succ, one-le-pow}
 use lib.Lanes.{zip2, mask_l, top, sel_l, dots, all_below, pair_sums, products}
 use mir.Val.{bits, hbits}
-use Rattle.humantime.specs.StepsOfCalls.{has_layout}
+use Rattle.humantime.specs.PrivateFunctions.{has_layout}
 use Rattle.humantime.specs.Timestamps.{DateAndTime, Letter_T, Space, Fields, fraction_digits, has_two, has_punctuation, has_digits, date_time_of, is_valid_date_time, zone_of, fraction_part, has_point, weak_checks, first_failed, has_separator}
 use Rattle.humantime.proofs.TimestampParts.{has_two_from_test, number_of_two, number_of_four}
 

@@ -21,7 +21,7 @@ use borrow.Rule.Slice.PartMut.{put_mid}
 use lib.Utf8.{encode}
 use Rattle.humantime.specs.Values.{nanos_per_micro, nanos_per_milli, nanos_per_second, seconds_per_minute, seconds_per_hour, seconds_per_day, seconds_per_month, seconds_per_year}
 use Rattle.humantime.specs.DurationResults.{divided, duration_text}
-use Rattle.humantime.specs.StepsOfCalls.{joined_after}
+use Rattle.humantime.specs.PrivateFunctions.{joined_after}
 use Rattle.humantime.specs.PrintedDurations.{Suffix, weights, suffixes, printed_count, printed_counts, joined_by_space, weighted_sum, AreCounts, IsCanonicalText}
 use Rattle.humantime.specs.Characters.{begins, decimal_value, is_digit, is_numeric, digits, is_letter, u64_max}
 use Rattle.humantime.specs.Durations.{HasOnly, SpelledSpan, Quantity, Nanos, Seconds, Scale, scale_of_word, quantity_nanos, size, is_some_and}

@@ -14,7 +14,7 @@ use Rattle.humantime.specs.DurationErrors.{span_of, Empty, Fault, after_word}
 use Rattle.humantime.specs.Walks.{walk, walk_of, items, sum_spans, fault_at}
 use Rattle.humantime.specs.DurationResults.{duration_answer, view_at, item_views, span_in, left_at}
 use Rattle.humantime.specs.Items.{SpanView, AreSpanViews, items_of, AreItems, IsDigitSlice, IsFractionView, IsSpanView}
-use Rattle.humantime.specs.StepsOfCalls.{after_space, read_span}
+use Rattle.humantime.specs.PrivateFunctions.{after_space, read_span}
 use Rattle.humantime.specs.Durations.{SpelledSpan, HasOnly}
 use Rattle.humantime.specs.Laws.{IsTiled, is_gap, slices_of}
 use Rattle.humantime.proofs.TextWalks.{items_found_at, Steps, by_walk, walk-go}

@@ -10,8 +10,8 @@ use Rattle.std.proofs.lemmas.List.{get_or-drop, take-append-drop, drop-drop, app
 use Rattle.std.proofs.lemmas.Str.{IsUtf8-drop, IsCharBoundary-past_char, drop_past_char, chars_past_char, byte_from_char, char_from_byte, len_utf8_ascii, len_utf8_bounds, encodes-chars, encode_same, IsCharBoundary-start, IsUtf8-take, IsCharBoundary-from_drop, chars-append, chars-nil}
 use Rattle.humantime.specs.DurationErrors.{IsCharStartIn, IsRangeIn, IsPartOf, may_follow_span}
 use Rattle.humantime.specs.Characters.{begins, drop_while, take_while, is_letter, is_whitespace, is_digit, byte_length, offset_of}
-use Rattle.humantime.specs.StepsOfCalls.{after_space}
-use Rattle.humantime.specs.StepsOfParts.{whitespace_len, IsTail}
+use Rattle.humantime.specs.PrivateFunctions.{after_space, whitespace_len}
+use Rattle.humantime.specs.PrivateTypes.{IsTail}
 use Rattle.humantime.proofs.Characters.{ascii_whitespace, digit_not_whitespace, letter_not_whitespace, whitespace_is_numeric, take_while-drop_while}
 
 -- ==== Offsets in a text, and the characters at them.

@@ -23,7 +23,7 @@ use Rattle.humantime.specs.declared.calendar.Date.{Date}
 use Rattle.humantime.specs.Calendar.{IsDate, day_of}
 use Rattle.humantime.specs.Laws.{PrintInOrder, ReadsAs}
 use Rattle.humantime.specs.Values.{nano_of}
-use Rattle.humantime.specs.StepsOfCalls.{IsSecondOf}
+use Rattle.humantime.specs.PrivateFunctions.{IsSecondOf}
 use Rattle.humantime.proofs.Dates.{day_at_most, before_later, valid_from_test, date_of_is}
 use Rattle.humantime.proofs.TimestampParts.{nanos_bound, digits_from_test, AreDigits, add_digits, nanos_added, digits_from, holds_before_zone}
 

@@ -5,7 +5,7 @@ use Rattle.std.specs.Char.{is_whitespace as std_is_whitespace}
 use Rattle.std.specs.Str.{trim_start, trim_end, skip_leading_whitespace, drop_trailing_whitespace}
 use Rattle.std.proofs.lemmas.Str.{encodes-chars, encodes_same, encodes-append, length-le-encodes}
 use Rattle.std.proofs.lemmas.Bool.Decides.{nat_tests}
-use Rattle.std.proofs.Math.Dec.{eqb-suc-zero as suc_not_zero}
+use Rattle.std.proofs.Math.Dec.{eqb-suc-zero}
 use Rattle.std.proofs.Math.Bool.{and-false}
 use Rattle.std.proofs.lemmas.List.{append_cancel_left}
 use Rattle.humantime.specs.Characters.{begins, ends, drop_while, take_while, is_whitespace, is_digit, is_letter, is_numeric, digits, is_point, byte_length, offset_of}
@@ -25,7 +25,7 @@ digits_kept (c ∷ cs) = by (std_is_whitespace c) (drop_trailing_whitespace cs) 
   where
     by : (w : Bool) (ds : List ℕ) → std_is_whitespace c ≡ w → digits ds ≡ digits cs → digits (cond (w && eqb (length ds) 0) [] (c ∷ ds)) ≡ digits (c ∷ cs)
     by true [] e d = grind (arith, whitespace_is, digit_not_whitespace)
-    by true (x ∷ xs) e d = rw (suc_not_zero (length xs)) (grind arith)
+    by true (x ∷ xs) e d = rw (eqb-suc-zero (length xs)) (grind arith)
     by false ds e d = grind arith
 
 pub digits_drop_while : (cs : List ℕ) → digits (drop_while is_whitespace cs) ≡ digits cs
@@ -73,7 +73,7 @@ drop_whitespace (c ∷ cs) o = grind (arith, (drop_whitespace cs o.1), whitespac
 drop_tail : (xs tail : List ℕ) → HasOnly is_whitespace tail → ends is_digit xs ≡ true → drop_trailing_whitespace (xs ++ tail) ≡ xs
 drop_tail [] tail o e = cc
 drop_tail (x ∷ []) tail o e = ap₂ (λ (b : Bool) (l : List ℕ). cond (b && eqb (length l) 0) [] (x ∷ l)) (whitespace_is x ∙ digit_not_whitespace x e) (drop_whitespace tail o)
-drop_tail (x ∷ y ∷ xs) tail o e = rw (drop_tail (y ∷ xs) tail o e, suc_not_zero (length xs), and-false)
+drop_tail (x ∷ y ∷ xs) tail o e = rw (drop_tail (y ∷ xs) tail o e, eqb-suc-zero (length xs), and-false)
 
 -- A text without leading and trailing whitespace goes from its first to its last digit.
 trimmed_is : (text slice : List ℕ) → IsDigitSlice text slice → trimmed text ≡ slice

@@ -26,10 +26,10 @@ use Rattle.humantime.proofs.PrintedTimestamps.{text_displayed, printed_reads, on
 pub use Rattle.humantime.proofs.Dates.{one_date, day_at_most}
 pub use Rattle.humantime.proofs.Counts.{printed_is_canon}
 use Rattle.humantime.proofs.Counts.{canon_is_text, canon_length, counts_small}
-use Rattle.humantime.specs.contracts.duration.error.DurationErrorPartialEq.TheImpl as errors
-use Rattle.humantime.proofs.CanonicalTexts as canonical
-use Rattle.humantime.proofs.JoinedTexts as drops_whitespace
-use Rattle.humantime.proofs.TimestampOutcomes as read
+use Rattle.humantime.specs.contracts.duration.error.DurationErrorPartialEq.TheImpl
+use Rattle.humantime.proofs.CanonicalTexts.{answer_is_canonical, answer_is_fault, canon_reads, keeps_its_text, keeps_its_value, texts_tell_apart}
+use Rattle.humantime.proofs.JoinedTexts.{accepted_without_whitespace, joined_room, joined_sum_or_overflow}
+use Rattle.humantime.proofs.TimestampOutcomes.{strict_is_marked_weak, strict_moment_is_weak, strict_outcome, weak_outcome}
 
 -- ==== The laws of durations as theorems over plain variables, each under its name in `laws`.
 
@@ -53,7 +53,7 @@ pub value_of_view : (r : Result ℕ DurationError) (v : ℕ) → result_view r �
 value_of_view r v h = grind arith
 
 -- Two errors are equal if and only if their faults are.
-pub errors_equal : (e f : DurationError) → IsTrue (errors.ghosts.eq e f) ↔ (fault_of e ≡ fault_of f)
+pub errors_equal : (e f : DurationError) → IsTrue (TheImpl.ghosts.eq e f) ↔ (fault_of e ≡ fault_of f)
 errors_equal e f = grind (arith, nat_tests, bytes_eq-Decides)
 
 -- ---- printed durations
@@ -61,29 +61,29 @@ errors_equal e f = grind (arith, nat_tests, bytes_eq-Decides)
 pub printed_duration_reads : (d : ℕ) → d < duration_end → PrintsAndReads d
 printed_duration_reads d fits =
     let one : ExactlyOne (IsCanonicalText d) = (duration_text d, printed_is_canon d, canon_is_text d) in
-    search (rules, one, (canonical.canon_reads d (omega arith)), outcome_accepted)
+    search (rules, one, (canon_reads d (omega arith)), outcome_accepted)
 
 pub text_reads : (d : ℕ) → d < duration_end → duration_answer (chars (duration_text d)) ≡ Ok d
 text_reads d fits = (printed_duration_reads d fits).answer
 
 pub printed_durations_differ : (a b : ℕ) → a < duration_end → b < duration_end → TextsTellApart a b
 printed_durations_differ a b fits_a fits_b =
-    search (rules, (canonical.texts_tell_apart a b (omega arith) (omega arith)), printed_is_canon)
+    search (rules, (texts_tell_apart a b (omega arith) (omega arith)), printed_is_canon)
 
 pub printed_bounds : (d : ℕ) → d < duration_end → IsBounded d
 printed_bounds d fits = record { length = canon_length d (omega arith); counts = counts_small d }
 
 pub canonical_again : (s : List ℕ) → IsCanonicalAgain s
 canonical_again s =
-    let text = canonical.answer_is_canonical s (canonical_answer (chars s)) refl in
+    let text = answer_is_canonical s (canonical_answer (chars s)) refl in
     record {
       some = λ v accepted. (duration_text v, record { duration = v; accepted = accepted; canon = printed_is_canon v });
-      value = canonical.keeps_its_value s;
-      again = canonical.keeps_its_text s;
-      answer = λ t h. (canonical.answer_is_canonical t (canonical_answer (chars t)) refl t).1 ((canonical.keeps_its_text s t t ((text t).0 h)).1 refl);
-      reads = λ v t read h. outcome_accepted (chars t) v (canonical.keeps_its_value s v t ((answer_accepts (chars s) (duration_answer (chars s)) refl v).0 read) ((text t).0 h));
+      value = keeps_its_value s;
+      again = keeps_its_text s;
+      answer = λ t h. (answer_is_canonical t (canonical_answer (chars t)) refl t).1 ((keeps_its_text s t t ((text t).0 h)).1 refl);
+      reads = λ v t read h. outcome_accepted (chars t) v (keeps_its_value s v t ((answer_accepts (chars s) (duration_answer (chars s)) refl v).0 read) ((text t).0 h));
       text = text;
-      fault = canonical.answer_is_fault s (canonical_answer (chars s)) refl;
+      fault = answer_is_fault s (canonical_answer (chars s)) refl;
     }
 
 -- ==== Texts that were accepted while trailing zeros of fractions counted.
@@ -113,17 +113,17 @@ still_accepted text =
 -- ==== The laws of accepted texts as theorems over plain variables, each under its name in `laws`, and other theorems.
 
 pub without_ws : (text : List ℕ) → KeepsValueWithoutWhitespace text
-without_ws text = search (rules, drops_whitespace.accepted_without_whitespace, outcome_accepted, accepted_from_outcome)
+without_ws text = search (rules, accepted_without_whitespace, outcome_accepted, accepted_from_outcome)
 
 pub joined : (a b : List ℕ) → AddWhenJoined a b
 joined a b = record {
   first = zero_or_spans a;
   second = zero_or_spans b;
-  sum = λ ss ts u v h k. (drops_whitespace.joined_room a b ss ts u v h k).0;
-  overflow = λ ss ts u v h k. (drops_whitespace.joined_room a b ss ts u v h k).1;
-  one = drops_whitespace.joined_sum_or_overflow a b;
+  sum = λ ss ts u v h k. (joined_room a b ss ts u v h k).0;
+  overflow = λ ss ts u v h k. (joined_room a b ss ts u v h k).1;
+  one = joined_sum_or_overflow a b;
   answer = λ u v x y some_a some_b.
-      elim (drops_whitespace.joined_sum_or_overflow a b u v (accepted_from_outcome a u x) (accepted_from_outcome b v y) some_a some_b) [
+      elim (joined_sum_or_overflow a b u v (accepted_from_outcome a u x) (accepted_from_outcome b v y) some_a some_b) [
         | inl sum ↦ inl (outcome_accepted (a ++ b) (u + v) sum)
         | inr f ↦ inr (outcome_fault (a ++ b) NumberOverflow f)
       ];
@@ -141,15 +141,15 @@ reordered a b =
 pub one_stamp_outcome : (text : List ℕ)
     → HasOneTimestamp (weak_checks text) (IsWeak text) (weak_answer text)
     × HasOneTimestamp (strict_checks text) (IsStrict text) (strict_answer text)
-one_stamp_outcome text = (read.weak_outcome text, read.strict_outcome text)
+one_stamp_outcome text = (weak_outcome text, strict_outcome text)
 
 pub strict_is_weak : (text : List ℕ) → IsWeakAndMarked text
 strict_is_weak text =
-    let law = read.strict_moment_is_weak text in
-    let in_weak = (read.weak_outcome text).value in
-    let in_strict = (read.strict_outcome text).value in
+    let law = strict_moment_is_weak text in
+    let in_weak = (weak_outcome text).value in
+    let in_strict = (strict_outcome text).value in
     record {
-      parts = read.strict_is_marked_weak text;
+      parts = strict_is_marked_weak text;
       moment = law;
       weak = λ t given. (in_weak t).1 ((law t).0 ((in_strict t).0 given)).0;
       marked = λ t given. ((law t).0 ((in_strict t).0 given)).1;
@@ -160,7 +160,7 @@ strict_is_weak text =
 
 -- The result of parsing a printed text.
 pub printed_read : (t : ℤ) (k : ℕ) (text : List ℕ) → IsPrinted t k text → strict_answer text ≡ Ok (cut t k)
-printed_read t k text printed = ((read.strict_outcome text).value (cut t k)).1 (printed_reads t k text printed).strict
+printed_read t k text printed = ((strict_outcome text).value (cut t k)).1 (printed_reads t k text printed).strict
 
 pub printed_moment_reads : (t : ℤ) (k : ℕ) → k ≤ 9 → MomentPrintsAndReads t k
 printed_moment_reads t k small = record {
@@ -168,7 +168,7 @@ printed_moment_reads t k small = record {
   displayed = λ text. text_displayed t k text small;
   reads = printed_reads t k;
   strict = printed_read t k;
-  weak = λ text printed. ((read.weak_outcome text).value (cut t k)).1 (printed_reads t k text printed).weak;
+  weak = λ text printed. ((weak_outcome text).value (cut t k)).1 (printed_reads t k text printed).weak;
   whole = grind (arith, ints);
 }
 

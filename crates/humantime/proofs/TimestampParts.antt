@@ -13,7 +13,7 @@ use Rattle.std.proofs.Math.Nat.{pow-suc, mul-le-mul_left, div-div-eq-div-mul}
 use Rattle.std.proofs.lemmas.List.{take-append-drop, drop_more}
 use Rattle.humantime.specs.Timestamps.{has_t_and_zone, has_point, has_two, number_between, zone_of, before_zone, fraction_nanos, Fields, fraction_text, date_time_text, IsWeak, Zone, zone_text}
 use Rattle.humantime.specs.declared.date.error.TimestampError.TheVariants.{InvalidDigit}
-use Rattle.humantime.specs.StepsOfCalls.{digits_answer}
+use Rattle.humantime.specs.PrivateFunctions.{digits_answer}
 use Rattle.humantime.proofs.Dates.{valid_from_test}
 
 -- ==== Numbers at their positions: the values of digits, and the ranges of date and time.

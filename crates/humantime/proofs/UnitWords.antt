@@ -11,7 +11,7 @@ use Rattle.std.proofs.lemmas.Str.{chars-encodes, encodes-chars}
 use Rattle.humantime.specs.Characters.{micro_sign, greek_mu}
 use Rattle.humantime.specs.Values.{seconds_per_day}
 use Rattle.humantime.specs.Durations.{Scale, words, scale_of_word}
-use Rattle.humantime.specs.StepsOfParts.{words_below, words_from, scale_from}
+use Rattle.humantime.specs.PrivateFunctions.{words_below, words_from, scale_from}
 
 -- The UTF-8 bytes of a word of ASCII letters, micro signs and Greek mus.
 abbrev pub bytes_of : List ℕ → List ℕ

@@ -21,5 +21,5 @@ pub mod Buffers
 -- The statements of the laws. The functions of `src/laws` have them as contracts, which are proved.
 pub mod Laws
 -- The definitions that the contracts of private functions cite. Public contracts do not depend on them.
-pub mod StepsOfParts
-pub mod StepsOfCalls
+pub mod PrivateTypes
+pub mod PrivateFunctions

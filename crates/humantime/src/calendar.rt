@@ -3,8 +3,8 @@
 ghost use Rattle.std.specs.Prelude.{◌≡◌, ◌+◌, ◌-◌, ◌<◌, ◌≤◌, ◌↔◌, IsSome, IfSome, MatchOption};
 ghost use Rattle.std.specs.Int.{IsInRange};
 ghost use Rattle.humantime.specs.Calendar.{days_in_year, days_in_month, days_of_years, days_of_months, IsDate, day_of};
+ghost use Rattle.humantime.specs.TimestampResults;
 ghost use Rattle.humantime.specs.TimestampResults.{march_days};
-ghost use Rattle.humantime.specs.TimestampResults as Dates;
 
 use std::marker::Model;
 use std::mem;
@@ -219,7 +219,7 @@ pub fn day_number(date: Date, turns: &mut Turns) -> Option<u32>
 #[inline(always)]
 fn march_year(day: u32) -> (u32, u32)
     requires { day ≤ 2_932_896 }
-    ensures year { result.0 ≡ Dates.march_year (day + 135_080) }
+    ensures year { result.0 ≡ TimestampResults.march_year (day + 135_080) }
     ensures day { march_days result.0 + result.1 ≡ day + 135_080 }
 {
     // Counted from 1600-03-01, 400 years before 2000-03-01, so that the subtraction does not underflow.

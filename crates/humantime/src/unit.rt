@@ -6,7 +6,7 @@
 ghost use Rattle.std.specs.Prelude.{◌≡◌, chars, option_map};
 ghost use Rattle.humantime.specs.Values.{seconds_per_day};
 ghost use Rattle.humantime.specs.Durations.{scale_of_word};
-ghost use Rattle.humantime.specs.StepsOfParts.{scale_from};
+ghost use Rattle.humantime.specs.PrivateFunctions.{scale_from};
 
 pub(crate) const NANOS_PER_MICRO: u64 = 1_000;
 

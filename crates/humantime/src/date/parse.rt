@@ -4,10 +4,9 @@ ghost use Rattle.std.specs.Prelude.{◌≡◌, ◌^◌, ◌<◌, ◌≤◌, leng
 ghost use Rattle.std.specs.Char.{is_ascii_digit};
 ghost use Rattle.std.specs.List.{list_all};
 ghost use Rattle.humantime.specs.Prelude.{IsStrictAnswer, IsWeakAnswer, strict_answer, weak_answer};
-ghost use Rattle.humantime.specs.Timestamps.{ZeroOffset, seconds_of, date_time_of, is_valid_date_time};
-ghost use Rattle.humantime.specs.Timestamps as Checks;
-ghost use Rattle.humantime.specs.StepsOfCalls.{date_time_view, fraction_answer, digits_answer};
-ghost use Rattle.humantime.specs.StepsOfCalls as Steps;
+ghost use Rattle.humantime.specs.Timestamps;
+ghost use Rattle.humantime.specs.Timestamps.{ZeroOffset, date_time_of, ends_in, has_separator, is_valid_date_time, seconds_of};
+ghost use Rattle.humantime.specs.PrivateFunctions.{date_time_view, digits_answer, fraction_answer, has_layout};
 
 use crate::calendar::{Date, Turns, day_number};
 use crate::date::error::TimestampError;
@@ -130,7 +129,7 @@ fn read_strict(s: &str) -> Result<SystemTime, TimestampError>
 #[inline(always)]
 #[tactic(auto, unfolding(crate::proofs::TimestampParts::zones_open))]
 fn has_t_and_zone(bytes: &[u8]) -> bool
-    ensures { result ≡ Checks.has_t_and_zone bytes.now }
+    ensures { result ≡ Timestamps.has_t_and_zone bytes.now }
 {
     bytes.len() >= 20
         && bytes[10] == b'T'
@@ -141,7 +140,7 @@ fn has_t_and_zone(bytes: &[u8]) -> bool
 #[inline(always)]
 #[tactic(auto, unfolding(crate::specs::Timestamps::zone_of))]
 fn before_zone(bytes: &[u8]) -> &[u8]
-    ensures { result.now ≡ Checks.before_zone bytes.now }
+    ensures { result.now ≡ Timestamps.before_zone bytes.now }
 {
     match bytes {
         [before @ .., b'Z'] => before,
@@ -154,7 +153,7 @@ fn before_zone(bytes: &[u8]) -> &[u8]
 #[inline(always)]
 #[tactic(auto, using(crate::proofs::TimestampParts::zones))]
 fn ends_in_zero_offset(bytes: &[u8]) -> bool
-    ensures { result ≡ Checks.ends_in ZeroOffset bytes.now }
+    ensures { result ≡ ends_in ZeroOffset bytes.now }
 {
     matches!(bytes, [.., b'+', b'0', b'0', b':', b'0', b'0'])
 }
@@ -182,8 +181,8 @@ fn read_timestamp(bytes: &[u8]) -> Result<SystemTime, TimestampError>
 #[tactic(auto, using(crate::proofs::Checks::checks), unfolding(crate::proofs::Checks::marks_open))]
 fn layout_error(bytes: &[u8]) -> TimestampError
     requires long { 19 ≤ length bytes.now }
-    requires separator { IsTrue (Checks.has_separator bytes.now) }
-    requires wrong_layout { Steps.has_layout bytes.now ≡ false }
+    requires separator { IsTrue (has_separator bytes.now) }
+    requires wrong_layout { has_layout bytes.now ≡ false }
     ensures { weak_answer bytes.now ≡ Err result }
 {
     if bytes[4] == b'-' && bytes[7] == b'-' && bytes[13] == b':' && bytes[16] == b':' {
@@ -203,8 +202,8 @@ fn layout_error(bytes: &[u8]) -> TimestampError
 #[tactic(auto, using(crate::proofs::Checks::sums_fit))]
 fn parse_date_time(bytes: &[u8]) -> Option<DateTime>
     requires long { 19 ≤ length bytes.now }
-    requires separator { IsTrue (Checks.has_separator bytes.now) }
-    ensures { SomeIff (option_map date_time_view result) (IsTrue (Steps.has_layout bytes.now)) (date_time_of bytes.now) }
+    requires separator { IsTrue (has_separator bytes.now) }
+    ensures { SomeIff (option_map date_time_view result) (IsTrue (has_layout bytes.now)) (date_time_of bytes.now) }
 {
     let front = u8x16::from_slice(bytes) - u8x16::from_slice(&FRONT_MIN);
     let back = u8x16::from_slice(&bytes[3..]) - u8x16::from_slice(&BACK_MIN);
@@ -246,7 +245,7 @@ fn unix_seconds(when: DateTime) -> Option<u64>
 #[inline(always)]
 #[tactic(auto, unfolding(crate::proofs::TimestampParts::fractions_open))]
 fn fraction_after_seconds(rest: &[u8]) -> Result<u32, TimestampError>
-    ensures { result ≡ fraction_answer (Checks.before_zone rest.now) }
+    ensures { result ≡ fraction_answer (Timestamps.before_zone rest.now) }
 {
     match before_zone(rest) {
         [] => Ok(0),

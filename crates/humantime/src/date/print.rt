@@ -5,7 +5,7 @@ ghost use Rattle.std.specs.Borrow.{sem};
 ghost use Rattle.std.specs.Str.{IsUtf8};
 ghost use Rattle.humantime.specs.Prelude.{DisplaysMoment, IsDate, IsPrintable, IsPrinted, KeptAtNone, cut, nano_of, places_of, printed_text, strict_answer};
 ghost use Rattle.humantime.specs.Timestamps.{two_digits, date_time_text, fields_text};
-ghost use Rattle.humantime.specs.StepsOfCalls.{IsSecondOf};
+ghost use Rattle.humantime.specs.PrivateFunctions.{IsSecondOf};
 ghost use Rattle.humantime.specs.TimestampResults.{printed_fields};
 
 use crate::buffer::str_prefix;

@@ -61,7 +61,7 @@ pub(crate) fn power_of_ten(exponent: usize) -> u64
 }
 
 impl Fraction {
-    ghost use Rattle.humantime.specs.StepsOfParts.{HasDigits};
+    ghost use Rattle.humantime.specs.PrivateTypes.{HasDigits};
 
     /// Returns the fraction followed by the ASCII digit `c`, or `None` if it then has more than 19 digits before its trailing zeros.
     #[inline(always)]

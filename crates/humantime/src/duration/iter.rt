@@ -1,7 +1,7 @@
 //! [`SpanIter`], the iterator over the spans of a string.
 
 ghost use Rattle.std.proofs.Props.{props};
-ghost use Rattle.humantime.specs.StepsOfParts.{IsTail};
+ghost use Rattle.humantime.specs.PrivateTypes.{IsTail};
 
 use crate::duration::error::DurationError;
 use crate::duration::scan::{read_span, skip_whitespace};

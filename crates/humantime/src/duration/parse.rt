@@ -3,7 +3,8 @@
 ghost use Rattle.std.specs.Prelude.{◌≡◌, ◌≤◌, ◌*◌, ◌/◌, ◌^◌, if◌then◌else◌, IsTrue, None, SomeIff, chars, map, IfErr};
 ghost use Rattle.humantime.specs.Characters.{max_fraction_digits, u64_max};
 ghost use Rattle.humantime.specs.Durations.{fits_u64, is_whole_part, size, times};
-ghost use Rattle.humantime.specs.StepsOfCalls as steps;
+ghost use Rattle.humantime.specs.PrivateFunctions;
+ghost use Rattle.humantime.specs.PrivateFunctions.{spelled_in};
 ghost use Rattle.humantime.specs.Walks.{add, add_span, sum_spans};
 ghost use Rattle.humantime.specs.Prelude.{AreItems, IsDurationAnswer, PointsInto, items_left, result_view, text_of};
 ghost use Rattle.humantime.specs.DurationResults.{item_views, span_in};
@@ -42,7 +43,7 @@ fn part_of(fraction: Fraction, factor: u64) -> Option<u64>
 /// If `one` is `None`, as for nanoseconds, which have no fractions, the result is `None` unless the fraction is zero.
 fn add_part(sum: StdDuration, one: Option<Quantity>, fraction: Fraction) -> Option<StdDuration>
     requires { fraction.exponent ≤ max_fraction_digits }
-    ensures { result ≡ steps.add_part sum one fraction.significand fraction.exponent }
+    ensures { result ≡ PrivateFunctions.add_part sum one fraction.significand fraction.exponent }
 {
     match one {
         None => (fraction.exponent == 0).then_some(sum),
@@ -56,7 +57,7 @@ fn add_part(sum: StdDuration, one: Option<Quantity>, fraction: Fraction) -> Opti
 #[inline(always)]
 #[tactic(auto, using(crate::proofs::Slices::amounts), unfolding(crate::specs::Walks::add_span))]
 fn add_amount(total: StdDuration, span: Span) -> Option<StdDuration>
-    ensures { result ≡ add_span total (steps.spelled_in span.entry) }
+    ensures { result ≡ add_span total (spelled_in span.entry) }
 {
     // `add_times` is called in both arms, so that `fraction` is tested once.
     match span.number.fraction {

@@ -29,7 +29,7 @@ struct Writer<'b> {
 }
 
 impl<'b> Writer<'b> {
-    ghost use Rattle.humantime.specs.StepsOfCalls.{most_bytes, written, Appends, AppendsCount, HasWritten};
+    ghost use Rattle.humantime.specs.PrivateFunctions.{most_bytes, written, Appends, AppendsCount, HasWritten};
 
     /// Creates a writer to `bytes` that has written nothing yet.
     #[inline(always)]

@@ -7,9 +7,9 @@ ghost use Rattle.std.specs.Prelude.{◌≡◌, ◌==◌, ◌+◌, ◌++◌, ◌<
 ghost use Rattle.std.specs.Prelude.{IfOk, MatchResult, length};
 ghost use Rattle.humantime.specs.Characters.{begins, drop_while, is_digit, is_letter, is_whitespace, offset_of, take_while};
 ghost use Rattle.humantime.specs.DurationErrors.{IsCharStartIn, after_point, IsRangeIn, PointsInto};
-ghost use Rattle.humantime.specs.StepsOfCalls as reader;
-ghost use Rattle.humantime.specs.StepsOfCalls.{IsNumberAt, number_view, read_view, span_result};
-ghost use Rattle.humantime.specs.StepsOfParts.{IsAfterWhitespace, IsTail, parts_of};
+ghost use Rattle.humantime.specs.PrivateFunctions;
+ghost use Rattle.humantime.specs.PrivateFunctions.{IsAfterWhitespace, IsNumberAt, number_view, read_view, span_result};
+ghost use Rattle.humantime.specs.PrivateTypes.{IsTail, parts_of};
 ghost use Rattle.humantime.specs.Walks.{may_be_word};
 
 use crate::duration::digits::{Fraction, push_digit};
@@ -102,7 +102,7 @@ fn begins_with_digit(text: &str) -> bool
 #[tactic(auto, using(crate::proofs::Offsets::rests, crate::proofs::SpanParts::numbers))]
 fn read_number(text: &str) -> Option<(Number<'_>, &str)>
     requires { begins is_digit (chars text.now) ≡ true }
-    ensures read { read_view number_view result ≡ reader.read_number (chars text.now) }
+    ensures read { read_view number_view result ≡ PrivateFunctions.read_number (chars text.now) }
     ensures rest { IfSome result (λ x. IsTail text.now x.1.now) }
 {
     let bytes = text.as_bytes();
@@ -145,7 +145,7 @@ fn skip_point(text: &str) -> Option<&str>
 #[inline(always)]
 #[tactic(auto, using(crate::proofs::Offsets::rests, crate::proofs::Characters::digit_is))]
 fn read_fraction(text: &str) -> Option<((Fraction, &str), &str)>
-    ensures read { read_view (λ f. (parts_of f.0, chars f.1.now)) result ≡ reader.read_fraction (chars text.now) }
+    ensures read { read_view (λ f. (parts_of f.0, chars f.1.now)) result ≡ PrivateFunctions.read_fraction (chars text.now) }
     ensures rest { IfSome result (λ x. IsTail text.now x.1.now) }
 {
     let bytes = text.as_bytes();
@@ -204,7 +204,7 @@ fn is_bare_point(fraction: Fraction, rest: &str) -> bool
 #[inline(always)]
 #[tactic(auto, using(crate::proofs::Offsets::span_ends))]
 fn skip_span_end(text: &str) -> Option<&str>
-    ensures read { option_map (λ t. chars t.now) result ≡ reader.skip_span_end (chars text.now) }
+    ensures read { option_map (λ t. chars t.now) result ≡ PrivateFunctions.skip_span_end (chars text.now) }
     ensures rest { IfSome result (λ t. IsTail text.now t.now) }
 {
     // The end of the string or a space follows most words. The test for a space saves a twentieth of the instructions.
@@ -240,7 +240,7 @@ fn offset_in(text: &str, rest: &str) -> usize
 pub(crate) fn read_span<'a>(text: &'a str, rest: &'a str) -> ReadSpan<'a>
     requires tail { IsTail text.now rest.now }
     requires nonempty { length rest.now ≢ 0 }
-    ensures read { span_result result ≡ reader.read_span (chars text.now) (chars rest.now) }
+    ensures read { span_result result ≡ PrivateFunctions.read_span (chars text.now) (chars rest.now) }
     ensures rest { IfOk result (λ x. IsTail text.now x.1.now) }
     ensures places { MatchResult result (λ x. IsRangeIn text.now x.0.start x.0.end) (PointsInto text.now) }
 {
@@ -281,7 +281,7 @@ fn complete_span<'a>(
 ) -> ReadSpan<'a>
     requires tail { IsTail text.now rest.now }
     requires number { IsNumberAt rest.now number after_digits.now }
-    ensures read { span_result result ≡ reader.read_span (chars text.now) (chars rest.now) }
+    ensures read { span_result result ≡ PrivateFunctions.read_span (chars text.now) (chars rest.now) }
     ensures rest { IfOk result (λ x. IsTail text.now x.1.now) }
     ensures places { MatchResult result (λ x. IsRangeIn text.now x.0.start x.0.end) (PointsInto text.now) }
 {

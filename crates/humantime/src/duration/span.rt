@@ -4,7 +4,7 @@ ghost use Rattle.std.specs.Prelude.{◌≡◌, ◌≤◌, Some, option_map, char
 ghost use Rattle.std.specs.Option.{ForSome};
 ghost use Rattle.humantime.specs.Characters.{max_fraction_digits};
 ghost use Rattle.humantime.specs.Durations.{scale_of_word};
-ghost use Rattle.humantime.specs.StepsOfParts.{IsNumberRead};
+ghost use Rattle.humantime.specs.PrivateTypes.{IsNumberRead};
 
 use crate::duration::digits::Fraction;
 use crate::unit::Scale;

@@ -1,5 +1,5 @@
-use Rattle.humantime.proofs.Theorems as theorem
+use Rattle.humantime.proofs.Theorems.{one_outcome}
 use Rattle.humantime.proofs.laws.one_outcome.Goals as goal
 
 pub returns : goal.returns
-returns c = theorem.one_outcome _
+returns c = one_outcome _

@@ -1,5 +1,5 @@
-use Rattle.humantime.proofs.Theorems as theorem
+use Rattle.humantime.proofs.Theorems.{printed_moment_reads}
 use Rattle.humantime.proofs.laws.printed_moment_reads.Goals as goal
 
 pub returns : goal.returns
-returns c = theorem.printed_moment_reads c.args.x.now.moment c.args.x.now.places c.args.x.now.few
+returns c = printed_moment_reads c.args.x.now.moment c.args.x.now.places c.args.x.now.few

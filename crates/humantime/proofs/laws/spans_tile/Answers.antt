@@ -1,5 +1,5 @@
-use Rattle.humantime.proofs.Theorems as theorem
+use Rattle.humantime.proofs.Theorems.{spans_tile}
 use Rattle.humantime.proofs.laws.spans_tile.Goals as goal
 
 pub returns : goal.returns
-returns c = theorem.spans_tile _
+returns c = spans_tile _

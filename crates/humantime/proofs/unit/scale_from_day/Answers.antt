@@ -1,7 +1,7 @@
 use Rattle.std.proofs.lemmas.Bool.Decides.{nat_tests}
 use Rattle.std.proofs.Common.{None, arith, length}
 use Rattle.humantime.specs.Values.{seconds_per_day}
-use Rattle.humantime.specs.StepsOfParts.{words_from}
+use Rattle.humantime.specs.PrivateFunctions.{words_from}
 use Rattle.humantime.proofs.UnitWords.{at_each_length, from_day}
 use Rattle.humantime.proofs.unit.scale_from_day.Goals as goal
 

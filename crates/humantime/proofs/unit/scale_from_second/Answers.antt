@@ -1,7 +1,7 @@
 use Rattle.std.proofs.lemmas.Bool.Decides.{nat_tests}
 use Rattle.std.proofs.Common.{chars, arith, length}
 use Rattle.humantime.specs.Values.{seconds_per_day}
-use Rattle.humantime.specs.StepsOfParts.{words_below, words_from, scale_from}
+use Rattle.humantime.specs.PrivateFunctions.{words_below, words_from, scale_from}
 use Rattle.humantime.proofs.UnitWords.{at_each_length, from_second}
 use Rattle.humantime.proofs.unit.scale_from_second.Goals as goal
 

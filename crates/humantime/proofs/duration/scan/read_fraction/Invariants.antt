@@ -1,5 +1,5 @@
 use Rattle.std.proofs.Common.{◌≤◌, ◌-◌, ℕ, List, length}
-use Rattle.humantime.specs.StepsOfParts.{HasDigits}
+use Rattle.humantime.specs.PrivateTypes.{HasDigits}
 use Rattle.humantime.proofs.SpanParts.{IsRead}
 use Rattle.humantime.proofs.duration.scan.read_fraction.Given as goal
 

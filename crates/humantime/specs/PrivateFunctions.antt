@@ -1,20 +1,22 @@
--- Steps of the parsers and printers: the readers of a span, sums, timestamps and writers.
-use Rattle.std.specs.Prelude.{◌≡◌, true, false, ℕ, nat_lt, List, [], ◌∷◌, Option, Some, None, Result, Ok, Err, if◌then◌else◌, option_map, chars, ◌*◌, ◌/◌, ◌^◌, ◌==◌, ◌+◌, ◌<◌, Bool, ◌&&◌, nat_le, pos, ℤ, length, drop, ◌≤◌, ◌++◌, take, decimal}
+-- What private functions return: the readers of a span and of a timestamp, and the writer of a duration.
+use Rattle.std.specs.Prelude.{◌≡◌, true, false, ℕ, nat_lt, List, [], ◌∷◌, Option, Some, None, Result, Ok, Err, if◌then◌else◌, option_map, chars, ◌*◌, ◌/◌, ◌^◌, ◌==◌, ◌+◌, ◌<◌, Bool, ◌&&◌, nat_le, pos, ℤ, length, drop, ◌≤◌, ◌++◌, take, decimal, bytes_eq, ltb, not, filter, SomeIff}
 use Rattle.std.specs.Borrow.{Bor}
 use Rattle.std.specs.Result.{result_map_both}
 use Rattle.std.specs.Str.{all_ascii_digits, byte}
 use Rattle.std.specs.List.{join_with_byte}
+use Rattle.std.specs.Map.{lookup}
+use Rattle.std.specs.Char.{len_utf8}
 use Rattle.humantime.specs.declared.duration.error.DurationError.{DurationError}
 use Rattle.humantime.specs.declared.duration.span.Number.{Number}
 use Rattle.humantime.specs.declared.duration.span.Span.{Span}
 use Rattle.humantime.specs.Characters.{begins, take_while, decimal_value, is_digit, is_numeric, is_whitespace, u64_max}
-use Rattle.humantime.specs.Durations.{SpelledSpan, has_too_many_digits, too_long, Quantity, size, of_kind, is_whole_part}
+use Rattle.humantime.specs.Durations.{SpelledSpan, has_too_many_digits, too_long, Quantity, Nanos, Seconds, Scale, words, size, of_kind, is_whole_part}
 use Rattle.humantime.specs.DurationErrors.{fault_of, number_of, after_number, after_point, after_fraction, after_word, span_of, may_follow_span, Fault}
 use Rattle.humantime.specs.Items.{SpanView}
 use Rattle.humantime.specs.DurationResults.{spelled, view_at}
 use Rattle.humantime.specs.SpanResults.{span_view}
 use Rattle.humantime.specs.Walks.{fault_at, has_bare_point, add}
-use Rattle.humantime.specs.StepsOfParts.{counted, IsTail}
+use Rattle.humantime.specs.PrivateTypes.{counted, IsTail}
 use Rattle.humantime.specs.declared.calendar.Date.{Date}
 use Rattle.humantime.specs.declared.date.error.TimestampError.{TimestampError}
 use Rattle.humantime.specs.declared.date.error.TimestampError.TheVariants.{InvalidDigit, InvalidFormat}
@@ -25,7 +27,35 @@ use Rattle.humantime.specs.Timestamps.{DateAndTime, fraction_nanos, has_punctuat
 use Rattle.humantime.specs.declared.duration.print.Writer.{Writer}
 use Rattle.humantime.specs.PrintedDurations.{Suffix, printed_counts}
 
+-- ==== The look-up of a unit in parts, by the size of the unit.
+
+-- Returns the seconds of a quantity, or 0 for one of nanoseconds.
+abbrev whole_seconds : Quantity → ℕ
+whole_seconds (Nanos n) = 0
+whole_seconds (Seconds n) = n
+
+-- Returns those of the words whose units are below this number of seconds.
+abbrev pub words_below : ℕ → List (List ℕ × Scale) → List (List ℕ × Scale)
+words_below seconds ws = filter (λ w. ltb (whole_seconds w.1.whole) seconds) ws
+
+-- Returns the words of the units of at least this number of seconds.
+abbrev pub words_from : ℕ → List (List ℕ × Scale)
+words_from seconds = filter (λ w. not (ltb (whole_seconds w.1.whole) seconds)) words
+
+-- Returns the scale of a word, if it is a unit of at least this number of seconds.
+unfoldable pub scale_from : ℕ → List ℕ → Option Scale
+scale_from seconds word = lookup (bytes_eq word) (words_from seconds)
+
 -- ==== What the readers of the parts of a span return, as functions of the characters of a text.
+
+-- Returns the length in bytes of the whitespace character at the start of a text, or 0 if there is none.
+abbrev pub whitespace_len : List ℕ → ℕ
+whitespace_len [] = 0
+whitespace_len (c ∷ cs) = if is_whitespace c then len_utf8 c else 0
+
+-- The result is the offset after the whitespace character at offset `at`, or `None` if there is none.
+abbrev pub IsAfterWhitespace : List ℕ → ℕ → Option ℕ → Type 0
+IsAfterWhitespace text at result = SomeIff result (0 < whitespace_len (chars (drop at text))) (at + whitespace_len (chars (drop at text)))
 
 -- What a reader returned: the view of the value, and the characters of the rest.
 abbrev pub read_view : {A B : Type 0} → (A → B) → Option (A × Bor (List ℕ)) → Option (B × List ℕ)
