@@ -39,7 +39,7 @@ fn main(rt: HostRuntime) -> io::Result<ExitCode> {
     }
 }
 
-/// A wrong argument: its name, its text and what is wrong with it.
+/// A wrong argument: its name, its string and what is wrong with it.
 type Wrong<'a> = (&'static str, &'a str, Located<TimestampError>);
 
 /// Returns the range between two timestamps, or the first one that is wrong.

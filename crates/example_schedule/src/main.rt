@@ -29,7 +29,7 @@ struct Retry {
     factor: u64,
 }
 
-/// A wrong text, and what is wrong with it.
+/// A wrong string, and what is wrong with it.
 #[derive(Clone, Copy)]
 enum Wrong<'a> {
     Time(&'a str, Located<TimestampError>),
@@ -47,7 +47,7 @@ impl fmt::Display for Wrong<'_> {
     }
 }
 
-/// Splits a text after its first word.
+/// Splits a string after its first word.
 fn split_word(text: &str) -> (&str, &str) {
     let text = text.trim_start();
     text.split_once(|c: char| c.is_whitespace())
@@ -105,7 +105,7 @@ fn write_next(out: &mut impl Write, job: Job<'_>, now: SystemTime) -> io::Result
     }
 }
 
-/// Writes the next run of each job in a text, the errors of the other lines, and the delays. Returns the exit status.
+/// Writes the next run of each job in an input, the errors of the other lines, and the delays. Returns the exit status.
 pub fn run(
     text: &str,
     now: &str,

@@ -20,7 +20,7 @@ struct Row<'a> {
 
 /// What is wrong with a line.
 #[derive(Clone, Copy, Debug, Error)]
-enum Fault<'a> {
+enum Wrong<'a> {
     #[error("a tab and a duration are missing")]
     NoTab,
     #[error("{0}")]
@@ -35,7 +35,7 @@ fn main(rt: HostRuntime) -> io::Result<ExitCode> {
     Ok(ExitCode::from(status))
 }
 
-/// Writes the table of a text, or what is wrong with its first wrong line, and returns the exit status.
+/// Writes the table of an input, or what is wrong with its first wrong line, and returns the exit status.
 pub fn run(
     alloc: Global,
     text: &str,
@@ -52,10 +52,10 @@ pub fn run(
                 }
                 total = sum;
             }
-            Err(fault) => {
-                let mark = mark_of(line, fault);
+            Err(wrong) => {
+                let carets = carets_of(line, wrong);
                 let number = index + 1;
-                writeln!(err, "example_table: line {number}: {fault}\n{line}\n{mark}")?;
+                writeln!(err, "example_table: line {number}: {wrong}\n{line}\n{carets}")?;
                 return Ok(2);
             }
         }
@@ -65,24 +65,24 @@ pub fn run(
 }
 
 /// Returns the row of a line, and the sum of its duration and the total so far. The bytes of an error are counted from behind the tab.
-fn row_of(line: &str, total: StdDuration) -> Result<(Row<'_>, StdDuration), Fault<'_>> {
-    let (name, text) = line.split_once('\t').ok_or(Fault::NoTab)?;
-    let duration = parse_duration(text).map_err(|error| Fault::Duration(error))?;
-    let sum = total.checked_add(duration).ok_or(Fault::TotalTooLong)?;
+fn row_of(line: &str, total: StdDuration) -> Result<(Row<'_>, StdDuration), Wrong<'_>> {
+    let (name, text) = line.split_once('\t').ok_or(Wrong::NoTab)?;
+    let duration = parse_duration(text).map_err(|error| Wrong::Duration(error))?;
+    let sum = total.checked_add(duration).ok_or(Wrong::TotalTooLong)?;
     Ok((Row { name, duration }, sum))
 }
 
-/// Returns the mark to print under a line.
-fn mark_of<'a>(line: &'a str, fault: Fault<'_>) -> Underline<'a> {
+/// Returns the carets to print under a line.
+fn carets_of<'a>(line: &'a str, wrong: Wrong<'_>) -> Underline<'a> {
     let start = line.find('\t').map_or(line.len(), |tab| tab + 1);
     let (before, _) = line.split_at(start);
-    match fault {
-        Fault::Duration(error) => error.after(start).underline(line),
+    match wrong {
+        Wrong::Duration(error) => error.after(start).underline(line),
         _ => Underline { before, part: "" },
     }
 }
 
-/// Returns the text of a table. A share is a whole number of percent, truncated.
+/// Returns the table as a string. A share is a whole number of percent, truncated.
 fn table_of(alloc: Global, rows: &[Row<'_>], total: StdDuration) -> Result<String, AllocError> {
     let mut width = "longest".len();
     for row in rows {

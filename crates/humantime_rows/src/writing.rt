@@ -11,7 +11,7 @@ pub(crate) fn agree(name: &'static str, holds: bool) -> Compared {
     if holds { Ok(()) } else { Err(name) }
 }
 
-/// Writes a value in `{:?}` form, followed by the name of a comparison with another call or format that does not hold, if there is one.
+/// Writes a value as `{:?}` does, followed by the name of a comparison with another call or format that does not hold, if there is one.
 pub(crate) fn write_result<W: Write, T: Debug + Drop>(
     f: &mut Formatter<W>,
     value: T,

@@ -26,7 +26,7 @@ use std::alloc::{AllocError, Global};
 /// - in a string that is no duration or timestamp: what is wrong in it;
 /// - of another wrong value, of an unknown key or of a duplicate one: its start;
 /// - of a missing key: the end of its object;
-/// - of a text that is not JSON: where it stops being JSON.
+/// - of a string that is not JSON: where it stops being JSON.
 ///
 /// # Examples
 ///

@@ -1,4 +1,4 @@
-//! Where a text stops being JSON, and what is expected there.
+//! Where a string stops being JSON, and what is expected there.
 
 use json::{Reader, Scratch, Token};
 use std::alloc::{AllocError, Global};
@@ -11,7 +11,7 @@ enum Next {
     Comma,
 }
 
-/// Returns the offset at which a text is not JSON, and why, or `None` if it is JSON with at most 127 objects and arrays in one another.
+/// Returns the offset at which a string is not JSON, and why, or `None` if it is JSON with at most 127 objects and arrays in one another.
 pub(crate) fn syntax_error<'a>(
     alloc: Global,
     text: &'a str,
@@ -68,7 +68,7 @@ fn member(is_object: bool) -> Next {
     if is_object { Next::Key } else { Next::Value }
 }
 
-/// Returns why the rest of a text cannot follow.
+/// Returns why the rest of a string cannot follow.
 fn why(rest: &str, next: Next, in_object: Option<bool>, may_close: bool) -> &'static str {
     match (rest.as_bytes().first(), next) {
         (None, _) => "EOF while parsing",

@@ -88,7 +88,7 @@ pub fn to_toml<T: Serialize>(alloc: Global, value: &T) -> Result<String, Setting
     }
 }
 
-/// Returns the error of a text that is not TOML.
+/// Returns the error of a string that is not TOML.
 fn document_error(
     alloc: Global,
     text: &str,

@@ -56,8 +56,8 @@ impl<E> Located<E> {
     ///
     /// let text = "5µs 2parsecs";
     /// let error = parse_duration(text).expect_err(&rt, "no such unit");
-    /// let mark = format!(in rt.alloc(); "{}", error.underline(text))?;
-    /// assert_eq!(rt; mark.as_str(), "     ^^^^^^^");
+    /// let carets = format!(in rt.alloc(); "{}", error.underline(text))?;
+    /// assert_eq!(rt; carets.as_str(), "     ^^^^^^^");
     /// ```
     pub fn underline<'a>(&self, text: &'a str) -> Underline<'a>
         ensures before { IsCharBoundary text.now self.now.start → result.before.now ≡ take self.now.start text.now }

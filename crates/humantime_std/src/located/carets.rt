@@ -18,12 +18,12 @@ use unicode_width::UnicodeWidthStr;
 /// ```
 /// use humantime_std::located::Underline;
 ///
-/// let mark = Underline { before: "\tµ ", part: "2018" };
-/// assert_eq!(rt; mark.to_string(rt.alloc())?.as_str(), "\t  ^^^^");
-/// let mark = Underline { before: "2018", part: "" };
-/// assert_eq!(rt; mark.to_string(rt.alloc())?.as_str(), "    ^");
-/// let mark = Underline { before: "5中 ", part: "\u{3000}e\u{301}" };
-/// assert_eq!(rt; mark.to_string(rt.alloc())?.as_str(), "    ^^^");
+/// let underline = Underline { before: "\tµ ", part: "2018" };
+/// assert_eq!(rt; underline.to_string(rt.alloc())?.as_str(), "\t  ^^^^");
+/// let underline = Underline { before: "2018", part: "" };
+/// assert_eq!(rt; underline.to_string(rt.alloc())?.as_str(), "    ^");
+/// let underline = Underline { before: "5中 ", part: "\u{3000}e\u{301}" };
+/// assert_eq!(rt; underline.to_string(rt.alloc())?.as_str(), "    ^^^");
 /// ```
 #[derive(Clone, Copy, Debug)]
 pub struct Underline<'a> {
