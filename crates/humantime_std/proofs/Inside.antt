@@ -1,6 +1,6 @@
 -- The bytes of an error: numbers of two digits, what fits the layout, and that their range lies in the text, between characters.
 use Rattle.std.proofs.Common.{◌≡◌, ℕ, zero, suc, ◌+◌, ◌-◌, ◌*◌, ◌<◌, ◌≤◌, List, ◌∷◌, length, get_or, drop, arith, rules}
-use Rattle.std.specs.Prelude.{true, Bool}
+use Rattle.std.specs.Prelude.{⊤, Bool, true}
 use Rattle.std.specs.Char.{is_ascii_digit}
 use Rattle.std.specs.Int.{is_in_range}
 use Rattle.std.specs.List.{AllByRecursion, prefix_len, zip}
@@ -14,7 +14,7 @@ use Rattle.std.proofs.lemmas.Slice.Zip.{length-zip}
 use Rattle.std.proofs.lemmas.Str.{IsCharBoundary-start, IsCharBoundary-end, IsCharBoundary-after_ascii}
 use Rattle.humantime.specs.Timestamps.{has_digits, has_two, number_between}
 use Rattle.humantime.proofs.TimestampParts.{has_two_from_test, number_of_two, number_of_four}
-use Rattle.humantime_std.specs.Located.{IsRangeIn, char_end, fit_len, fits, fraction_end, layout, timestamp_len, zone_len}
+use Rattle.humantime_std.specs.Located.{IsRangeIn, char_end, fit_len, fits, fraction_end, layout, timestamp_len, wrong_field, zone_len}
 
 -- ---- Numbers
 
@@ -23,10 +23,14 @@ pub year_of_pairs : (b : List ℕ) → 19 ≤ length b → has_two b 0 ≡ true 
 year_of_pairs b long century decade =
     omega (arith, number_of_four b (omega (arith, long)) century decade, number_of_two b 0 (omega (arith, long)) century, number_of_two b 2 (omega (arith, long)) decade)
 
--- A number of two digits, and those of the fields.
+-- A number of two digits, and those of the fields, with the definitions that these open.
 pub ruleset pairs = (has_two_from_test, number_of_two)
 
 pub ruleset fields = (common_steps, and_parts, year_of_pairs)
+
+unfoldable pub fields_open : ⊤
+unfolding wrong_field has_digits
+fields_open = tt
 
 -- ---- What fits the layout
 

@@ -328,7 +328,7 @@ fn fit_len(text: &str, strict: bool) -> usize
 }
 
 /// Returns the bytes of the first number that is out of its bounds.
-#[tactic(auto, using(crate::proofs::Inside::fields), unfolding(crate::specs::Located::wrong_field, humantime::specs::Timestamps::has_digits))]
+#[tactic(auto, using(crate::proofs::Inside::fields), unfolding(crate::proofs::Inside::fields_open))]
 fn wrong_field(bytes: &[u8]) -> (usize, usize)
     requires long { 19 ≤ length bytes.now }
     requires digits { has_digits bytes.now ≡ true }
