@@ -1,5 +1,5 @@
 -- The first span up to whose end a text overflows.
-use Rattle.std.proofs.Common.{Ok, ◌≡◌, ◌==◌, ◌↔◌, ◌⊎◌, ℕ, zero, suc, ◌-◌, ◌≤◌, Bool, true, false, List, [], ◌∷◌, ◌++◌, length, take, drop, Option, Some, None, Result, Err, IsUtf8, IsCharBoundary, SomeIff, chars, option_map, unwrap_or, refl, sym, ap, ◌∙◌, inl, inr, arith, append_assoc, append-nil, length-append}
+use Rattle.std.proofs.Common.{Ok, ◌≡◌, ◌≢◌, ◌==◌, ◌↔◌, ◌⊎◌, ℕ, zero, suc, ◌-◌, ◌≤◌, Bool, true, false, List, [], ◌∷◌, ◌++◌, length, take, drop, Option, Some, None, Result, Err, IsUtf8, IsCharBoundary, SomeIff, chars, option_map, unwrap_or, refl, sym, ap, ◌∙◌, inl, inr, arith, append_assoc, append-nil, length-append}
 use Rattle.std.specs.Prelude.{slice_get, encode_utf8_all, IsOk}
 use Rattle.std.specs.Iterator.{SkipsThenYields}
 use Rattle.std.specs.Option.{option_and_then}
@@ -10,9 +10,9 @@ use Rattle.std.proofs.lemmas.Iterator.Consumers.{YieldsList-from_shown, nth_from
 use Rattle.std.proofs.lemmas.Grind.{common_steps}
 use Rattle.std.proofs.lemmas.Option.{gets}
 use Rattle.std.proofs.lemmas.Str.{IsCharBoundary-at_seam, IsCharBoundary-end, chars-encodes, encodes-append, encodes-chars, length-le-encodes, scalars-chars}
-use Rattle.humantime.specs.Characters.{take_while, is_numeric, is_point, is_whitespace, offset_of}
-use Rattle.humantime.specs.Durations.{Reads, SpelledSpan, too_long}
-use Rattle.humantime.specs.DurationErrors.{BeginsSpan, Fault, IsRangeIn, NumberOverflow, after_number, after_word, span_of, word_of}
+use Rattle.humantime.specs.Characters.{bare_zero, take_while, is_numeric, is_point, is_whitespace, offset_of}
+use Rattle.humantime.specs.Durations.{Reads, SpelledSpan, WithinLimits}
+use Rattle.humantime.specs.DurationErrors.{BeginsSpan, BreaksLimit, Fault, IsRangeIn, IsStoppedWith, NumberOverflow, after_number, after_word, span_of, word_of}
 use Rattle.humantime.specs.Items.{AreItems, Items}
 use Rattle.humantime.specs.SpanResults.{GivesItem, item_of, items_left, span_view}
 use Rattle.humantime.specs.declared.duration.error.DurationError.{DurationError}
@@ -141,36 +141,31 @@ front_decides bs tail t k end utf8 other found cut trim =
 
 -- ---- The fault
 
+-- The row of the table of errors that applies after spans within the limits, if a text overflows, and is beyond them with a span there.
+overflow_row : (text front rest : List ℕ) (spans : List SpelledSpan) → IsReadTo text front spans rest → text ≢ bare_zero → duration_answer text ≡ Err NumberOverflow → WithinLimits spans
+    → ¬ (BeginsSpan rest × WithinLimits (spans ++ span_of rest ∷ [])) → IsStoppedWith text front spans rest NumberOverflow ⊎ BreaksLimit spans rest NumberOverflow
+overflow_row text front rest spans read some over within beyond = elim (none_or_some (fault_at text rest)) [
+  | inl none ↦ inr (record { span = is_fine text rest none; beyond = λ more. beyond (is_fine text rest none, more); fault = refl })
+  | inr stop ↦
+      let ends = stops_here text front rest spans stop.0 read stop.1 in
+      let items : Items text spans (stop_at (length spans == 0) text rest) = record { front = front; rest = rest; split = read.split; formed = read.formed; ends = ends } in
+      let is : stop_at (length spans == 0) text rest ≡ Some NumberOverflow = grind (arith, (outcome_summed text spans _ some items), over, within) in
+      inl (rw is at ends)
+]
+
 -- A text that overflows, and whose first `k` spans and no more are within the limits, overflows at the next span, or to its end if there is none.
 pub overflows_after : (bs : List ℕ) (k j : ℕ) (end : Option ℕ) → IsUtf8 bs → duration_answer (chars bs) ≡ Err NumberOverflow → Fit (chars bs) k → ¬ (Fit (chars bs) (suc k))
     → SomeIff end (BeginsSpans (suc j) (body (chars bs))) (end_at j (chars bs)) → j ≡ k → OverflowsAt (chars bs) (start_at k (chars bs)) (unwrap_or end (length bs))
-overflows_after bs k j (Some end) utf8 over fit beyond found same =
-    let is = rw same at found in
-    let h = fault_from_outcome _ _ over in
-    let before = read_to (chars bs) _ (body (chars bs)) [] k (begun (chars bs)) fit.begins in
-    let more = one_more (body (chars bs)) k in
-    let span = (more.2.0 is.0).1 in
-    record {
-      fault = record { not_zero = h.not_zero; front = before.0; rest = _; spans = _; split = before.1.split; within = fit.within; row = inr (record { span = span; beyond = λ within. beyond (record { begins = is.0; within = rw (more.1) within }); fault = refl }) };
-      at_start = refl;
-      at_end = rw (span.number.short) (is.1);
-    }
-overflows_after bs k j None utf8 over fit beyond found same =
-    let none = rw same at found in
-    let h = fault_from_outcome _ _ over in
-    let before = read_to (chars bs) _ (body (chars bs)) [] k (begun (chars bs)) fit.begins in
+overflows_after bs k j end utf8 over fit beyond found same =
     let rest = drop_spans k (body (chars bs)) in
-    let spans = take_spans k (body (chars bs)) in
-    let stop : (e : Fault) × (fault_at (chars bs) rest ≡ Some e) = grind (arith, (none_or_some (fault_at (chars bs) rest)), (is_fine (chars bs) rest), (one_more (body (chars bs)) k), none, (fit.begins)) in
-    let ends = stops_here (chars bs) before.0 _ spans stop.0 before.1 stop.1 in
-    let items : Items (chars bs) spans (stop_at (length spans == 0) (chars bs) rest) = record { front = before.0; rest = rest; split = before.1.split; formed = before.1.formed; ends = ends } in
-    let is : stop_at (length spans == 0) (chars bs) rest ≡ Some NumberOverflow = grind (arith, (outcome_summed _ _ _ h.not_zero items), over, (fit.within)) in
-    let row = rw is at ends in
-    let long : too_long (span_of rest) ≡ true = grind (arith, row) in
+    let some = (fault_from_outcome _ _ over).not_zero in
+    let read = read_to (chars bs) _ (body (chars bs)) [] k (begun (chars bs)) fit.begins in
+    let more = one_more (body (chars bs)) k in
+    let row = overflow_row (chars bs) read.0 rest _ read.1 some over fit.within (λ next. beyond (record { begins = more.2.1 (fit.begins, next.0); within = rw (more.1) (next.1) })) in
     record {
-      fault = record { not_zero = h.not_zero; front = before.0; rest = rest; spans = spans; split = before.1.split; within = fit.within; row = inl row };
+      fault = record { not_zero = some; front = read.0; rest = rest; spans = take_spans k (body (chars bs)); split = read.1.split; within = fit.within; row = row };
       at_start = refl;
-      at_end = rw long (sym (ap length (encodes-chars bs utf8)));
+      at_end = grind (arith, row, more, (rw same at found), fit.begins, (ap length (encodes-chars bs utf8)));
     }
 
 -- A text overflows at characters.
