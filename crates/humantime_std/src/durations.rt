@@ -217,15 +217,11 @@ impl StdDurationExt for StdDuration {
         self.to_std().as_nanos()
     }
 
-    fn as_millis(self) -> u128
-        ensures { result ≡ self / 1_000_000 }
-    {
+    fn as_millis(self) -> u128 {
         self.to_std().as_millis()
     }
 
-    fn is_zero(self) -> bool
-        ensures { IsTrue result ↔ (self ≡ 0) }
-    {
+    fn is_zero(self) -> bool {
         self == StdDuration::ZERO
     }
 
@@ -235,9 +231,7 @@ impl StdDurationExt for StdDuration {
         Some(StdDuration::from_std(self.to_std().checked_sub(other.to_std())?))
     }
 
-    fn saturating_sub(self, other: StdDuration) -> StdDuration
-        ensures { result ≡ self - other }
-    {
+    fn saturating_sub(self, other: StdDuration) -> StdDuration {
         StdDuration::from_std(self.to_std().saturating_sub(other.to_std()))
     }
 
