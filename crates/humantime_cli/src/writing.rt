@@ -1,6 +1,6 @@
 //! Writes a whole line to a writer whose `write` may accept only part of its input.
 
-ghost use Rattle.std.specs.Prelude.{[], unwrap_or, IsSome, IfOk};
+ghost use Rattle.std.specs.Prelude.{[], unwrap_or, IsSome, OnOk};
 ghost use Rattle.humantime_cli.specs.Pieces.{IsPiece};
 ghost use Rattle.humantime_cli.specs.Writes.{Writes, line};
 
@@ -8,18 +8,18 @@ use crate::piece::{PIECE_LEN, Piece};
 use std::fmt::{self, Display, Write as _};
 use std::io::Write;
 
-/// Returns the piece from the offset `start` on of the line that [`write_line`] writes.
+/// Fills the piece from the offset `start` on with the line that [`write_line`] writes. It takes a reference, since a result that holds a
+/// piece is copied.
 #[inline(always)]
 #[tactic(auto, using(crate::proofs::PieceLemmas::lines))]
-fn piece_of_line<D: Display + Copy>(value: D, start: usize) -> Result<Piece, fmt::Error>
+fn fill<D: Display + Copy>(piece: &mut Piece, start: usize, value: D) -> fmt::Result
     requires { IsSome (D.output value) }
-    ensures { IfOk result (IsPiece start (line (unwrap_or (D.output value) []))) }
+    ensures { OnOk result (IsPiece start (line (unwrap_or (D.output value) [])) piece.new) }
 {
-    let mut piece = Piece::new(start);
+    piece.restart(start);
     // `fmt::Write::write` of the kit displays a value.
     piece.write(value)?;
-    piece.write_str("\n")?;
-    Ok(piece)
+    piece.write_str("\n")
 }
 
 /// Writes the string that `value` displays and a line feed. A write fails if it returns an error or writes no bytes. Nothing more is written
@@ -33,9 +33,10 @@ pub(crate) fn write_line<W: Write, D: Display + Copy>(to: &mut W, value: D) -> f
     requires { IsSome (D.output value) }
     ensures { Writes result (W.contents to.old) (W.contents to.new) (line (unwrap_or (D.output value) [])) }
 {
+    let mut piece = Piece::new();
     let mut done: usize = 0;
     while done <= usize::MAX - PIECE_LEN {
-        let piece = piece_of_line(value, done)?;
+        fill(&mut piece, done, value)?;
         match to.write(piece.as_bytes()) {
             Ok(0) | Err(_) => return Err(fmt::Error),
             Ok(count) if piece.ends_after(count) => return Ok(()),
