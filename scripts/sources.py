@@ -1,6 +1,7 @@
 """Parses the sources of the crates: items with their docstrings and contracts, of which docs/API.md is made."""
 import re
 from collections import namedtuple
+from itertools import groupby
 from textwrap import dedent
 
 from copies import CRATES
@@ -56,16 +57,21 @@ def inside(lines):
     return "\n".join(lines[3:]).partition("\n}")[0].split("\n") if lines[2].endswith("{") else []
 
 
+def parts(item, lines):
+    """Returns the public lines in the braces of a type, each with the first paragraph of its docstring behind it."""
+    text = re.sub(r"^ +(?:///\n(?: +///.*\n)*|#.*\n)", "", "\n".join(inside(lines)), flags=re.M)
+    text = re.sub(r"((?: +/// .*\n)+)(.*)", lambda at: f"{at[2]} // {' '.join(re.findall('/// (.*)', at[1]))}", re.sub(LINK, r"\1", text))
+    return [line.replace("pub ", "") for line in text.split("\n") if re.match(" +pub " if item.kind == "struct" else " ", line)]
+
+
 def declared(item, lines):
     """Returns the signature and the contract of a function, or a type with its attributes and what is public of its body."""
     if item.kind not in ("enum", "struct"):
-        return (item.head.partition(" = ")[0] if item.kind == "const" else item.head.removesuffix(";")).split("\n")
+        head = item.head.partition(" = ")[0] if item.kind == "const" else item.head.removesuffix(";")
+        return [head.replace("\n   ", "")] if head.count("\n") == 1 and len(head) <= 120 else head.split("\n")
     attributes = [re.sub(r"\bDrop, |, Drop\b", "", line) for line in lines[:2] if line.startswith("#[") and "(Drop)" not in line]
-    body = [line.replace("pub ", "") for line in inside(lines) if re.match(r" +[^#]" if item.kind == "enum" else r" +(///|pub )", line)]
-    head = re.sub(r"\(\w+\);$", "", item.head)
-    if any("///" not in line for line in body):
-        return [*attributes, f"{head} {{", *body, "}"]
-    return [*attributes, head.replace("pub ", "") if ";" in head else f"{head} {{ .. }}"]
+    head, body = " ".join([*attributes, re.sub(r"\(\w+\);$", "", item.head).replace("pub ", "")]), parts(item, lines)
+    return [f"{head} {{", *body, "}"] if body else [head if ";" in head else f"{head} {{ .. }}"]
 
 
 def entry(item, lines, found):
@@ -76,25 +82,35 @@ def entry(item, lines, found):
         if other.kind == "impl" and other.owner == item.name and other.trait not in hidden:
             known = [line for line in inside(rest) if re.match(r"    (type|ghost (?!use)).*;$", line) and "Prim." not in line]
             methods = [part.head for part, _ in found if (part.owner, part.trait) == other[4:6] and "ensures" in part.head]
-            made += [""] * bool(other.docs or known or methods) + said(other.docs) + [re.sub(r" \{\}?$", "", rest[2]), *known]
-            made += ["    " + head.replace("\n", "\n    ") for head in methods]
+            head = re.sub(r" \{\}?$", "", rest[2])
+            is_short = len(known) == 1 and not methods and len(head + known[0]) <= 120
+            made += said(other.docs) + ([f"{head} {{ {known[0].strip()} }}"] if is_short else [head, *known])
+            made += ["    " + method.replace("\n", "\n    ") for method in methods]
         elif other.kind in ("const", "fn") and (other.is_public and other.owner or other.trait) == item.name:
             docs = next(part.docs for part, _ in found if part.name == other.name and part.docs and part.owner in (item.name, other.owner))
-            made += ["", *said(docs), "\n".join(declared(other, rest)).replace(f"{other.kind} ", f"{other.kind} {other.owner}::", 1)]
+            made += [*said(docs), "\n".join(declared(other, rest)).replace(f"{other.kind} ", f"{other.kind} {other.owner}::", 1)]
     return "\n".join(made)
+
+
+def title_of(crate, module, text):
+    """Returns what the docstring of a file says first, with a link to the file."""
+    title = " ".join(re.findall(r"^//! (.*)", re.split(r"\n(?://!)?\n", text)[0], re.M))
+    return re.sub(LINK, r"\1", title) + f" [Source](../crates/{crate}/src/{module.replace('.', '/')}.rt)\n"
 
 
 def public_items():
     """Returns docs/API.md below its introduction: the public items, with what their docstrings say first, and their contracts."""
-    made = ""
+    made, of_top = "", lambda module: module.split(".")[0]
     for crate, order in LIBRARIES.items():
         sources = dict(files(crate, "src"))
         found = {module: [(item, ["", "", *text.split("\n")][item.line - 1 :]) for item in items(text)] for module, text in sources.items()}
         exported = re.findall(r"\w+", " ".join(re.findall(r"^pub (?:use [\w:]+::|mod )([^;]*);", sources["lib"], re.M)))
+        shown = {module: [pair for pair in pairs if pair[0].is_public and not pair[0].owner and {pair[0].name, module} & {*exported}]
+                 for module, pairs in found.items()}
         made += f"\n## The crate `{crate}`\n"
-        for module in sorted(sources, key=lambda name: [*order, name.split(".")[0]].index(name.split(".")[0])):
-            here = [pair for pair in found[module] if pair[0].is_public and not pair[0].owner and {pair[0].name, module} & {*exported}]
-            title = re.sub(LINK, r"\1", " ".join(re.findall(r"^//! (.*)", re.split(r"\n(?://!)?\n", sources[module])[0], re.M)))
-            path, code = module.replace(".", "/"), "\n\n".join(entry(*pair, sum(found.values(), [])) for pair in here)
-            made += f"\n### {path}\n\n{title} [Source](../crates/{crate}/src/{path}.rt)\n\n```rust\n{code}\n```\n" if here else ""
+        for top, modules in groupby(sorted(filter(shown.get, shown), key=lambda name: [*order, of_top(name)].index(of_top(name))), of_top):
+            titles, pairs = zip(*((title_of(crate, module, sources[module]), shown[module]) for module in modules))
+            head = "- ".join([""] * (len(titles) > 1) + [*titles])
+            code = "\n\n".join(entry(*pair, sum(found.values(), [])) for pair in sum(pairs, []))
+            made += f"\n### {top}\n\n{head}\n```rust\n{code}\n```\n"
     return made
