@@ -2,9 +2,9 @@
 import re
 from collections import namedtuple
 from itertools import groupby
-from textwrap import dedent
+from textwrap import dedent, indent
 
-from copies import CRATES
+from copies import CRATES, read
 
 IMPL = re.compile(r"impl(?:<[^>]*>)? ((?:(?:\w+::)*(\w+)(?:<.*>)? for )?(\w+))")
 ITEM = re.compile(r"( *)(pub )?(?:pub\(\w+\) )?(?:unsafe |const (?=fn ))?(const|enum|fn|struct|trait) (\w+)")
@@ -20,97 +20,88 @@ def files(crate, folder):
         yield ".".join(path.relative_to(top).with_suffix("").parts), path.read_text(encoding="utf-8")
 
 
-# An item: its docstring, as lines with their numbers, the type and the trait of its `impl`, and its lines up to a function's body.
-Item = namedtuple("Item", "kind name line docs owner trait is_public head", defaults=["", "", False, ""])
+# An item: the lines of its docstring and attributes, the type and the trait of its `impl`, its lines up to a body, and those in its braces.
+Item = namedtuple("Item", "kind name line docs attributes owner trait is_public head body", defaults=[[], "", "", False, "", []])
+
+
+def inside(lines):
+    """Returns the lines in the braces of the item that begins at the first of these lines."""
+    return "\n".join(lines[1:]).partition("\n}")[0].split("\n") if lines[0].endswith("{") else []
 
 
 def items(text):
     """Yields the items of a source file, in order. A docstring above anything else is an item of the kind `docs`."""
-    owner, trait, docs, lines = "", "", [], text.split("\n")
+    owner, trait, docs, attributes, lines = "", "", [], [], text.split("\n")
     for number, line in enumerate(lines, 1):
         if found := re.match(r" *//[/!] ?(.*)", line):
-            docs.append((number, found[1].rstrip()))
+            docs.append(found[1].rstrip())
+        elif found := re.match(r" *(#\[.*)", line):
+            attributes.append(found[1])
         elif found := IMPL.match(line):
-            owner, trait = found[3], found[2] or ""
-            yield Item("impl", found[1], number, docs, owner, trait)
+            owner, trait, head = found[3], found[2] or "", re.sub(r" \{\}?$", "", line)
+            yield Item("impl", found[1], number, docs, attributes, owner, trait, False, head, inside(lines[number - 1 :]))
         elif found := ITEM.match(line):
             head = dedent(re.split(r"\s*\{\}?$|(?<=;)$", "\n".join(lines[number - 1 :]), maxsplit=1, flags=re.M)[0]).removeprefix("pub ")
             head = re.sub(r",\n\s+(?=[a-z_]+:)", ", ", re.sub(r",\s*\n\)", ")", re.sub(r"\(\s*\n\s*", "(", head)))
-            yield Item(found[3], found[4], number, docs, *((owner, trait) if found[1] else ("", "")), bool(found[2]), head)
+            of_impl = (owner, trait) if found[1] else ("", "")
+            yield Item(found[3], found[4], number, docs, attributes, *of_impl, bool(found[2]), head, inside(lines[number - 1 :]))
             owner = found[4] if found[3] == "trait" else owner
-        elif docs and not line.strip().startswith("#["):
-            yield Item("docs", "", docs[0][0], docs)
+        elif docs:
+            yield Item("docs", "", number - len(docs), docs)
         if re.match(r"\}$|\S.*\{\}$", line):
             owner, trait = "", ""
         if not re.match(r" *(//[/!]|#\[)", line):
-            docs = []
+            docs, attributes = [], []
 
 
-def said(docs):
-    """Returns the first paragraph of a docstring, as comments."""
-    text = re.sub(LINK, r"\1", "\n".join(line for _, line in docs))
-    return [f"/// {line}" for line in text.partition("\n\n")[0].split("\n")] if docs else []
+def said(docs, mark="/// "):
+    """Returns the lines of the first paragraph of a docstring, each behind this mark."""
+    text = re.sub(LINK, r"\1", "\n".join(docs).partition("\n\n")[0])
+    return [mark + line for line in text.split("\n") if docs]
 
 
-def inside(lines):
-    """Returns the lines in the braces of an item. The item begins at the third of these lines, below its attributes."""
-    return "\n".join(lines[3:]).partition("\n}")[0].split("\n") if lines[2].endswith("{") else []
-
-
-def parts(item, lines):
-    """Returns the public lines in the braces of a type, each with the first paragraph of its docstring behind it."""
-    text = re.sub(r"^ +(?:///\n(?: +///.*\n)*|#.*\n)", "", "\n".join(inside(lines)), flags=re.M)
-    text = re.sub(r"((?: +/// .*\n)+)(.*)", lambda at: f"{at[2]} // {' '.join(re.findall('/// (.*)', at[1]))}", re.sub(LINK, r"\1", text))
-    return [line.replace("pub ", "") for line in text.split("\n") if re.match(" +pub " if item.kind == "struct" else " ", line)]
-
-
-def declared(item, lines):
-    """Returns the signature and the contract of a function, or a type with its attributes and what is public of its body."""
+def declared(item):
+    """Returns the signature and the contract of a function, or a type with its attributes and what is public of its body, each line with
+    the first paragraph of its docstring behind it."""
     if item.kind not in ("enum", "struct"):
         head = item.head.partition(" = ")[0] if item.kind == "const" else item.head.removesuffix(";")
-        return [head.replace("\n   ", "")] if head.count("\n") == 1 and len(head) <= 120 else head.split("\n")
-    attributes = [re.sub(r"\bDrop, |, Drop\b", "", line) for line in lines[:2] if line.startswith("#[") and "(Drop)" not in line]
-    head, body = " ".join([*attributes, re.sub(r"\(\w+\);$", "", item.head).replace("pub ", "")]), parts(item, lines)
-    return [f"{head} {{", *body, "}"] if body else [head if ";" in head else f"{head} {{ .. }}"]
+        return head.replace("\n   ", "") if head.count("\n") == 1 and len(head) <= 120 else head
+    attributes = [re.sub(r"\bDrop, |, Drop\b", "", line) for line in item.attributes if "(Drop)" not in line]
+    head = " ".join([*attributes, re.sub(r"\(\w+\);$", "", item.head).replace("pub ", "")])
+    text = re.sub(r"^ +(?:///\n(?: +///.*\n)*|#.*\n)", "", re.sub(LINK, r"\1", "\n".join(item.body)), flags=re.M)
+    text = re.sub(r"((?: +/// .*\n)+)(.*)", lambda at: f"{at[2]} // {' '.join(re.findall('/// (.*)', at[1]))}", text)
+    body = [line.replace("pub ", "") for line in text.split("\n") if re.match(" +pub " if item.kind == "struct" else " ", line)]
+    return "\n".join([f"{head} {{", *body, "}"]) if body else head if ";" in head else f"{head} {{ .. }}"
 
 
-def entry(item, lines, found):
+def entry(item, found):
     """Returns the lines of a public item, and below a type what its traits promise, and its methods. A trait has those of its `impl`."""
-    made = [*said(item.docs), *declared(item, lines)]
-    hidden = {"", "Model", *(other.name for other, _ in found if other.kind == "trait" and not other.is_public)}
-    for other, rest in found:
+    made = [*said(item.docs), declared(item)]
+    hidden = {"", "Model", *(other.name for other in found if other.kind == "trait" and not other.is_public)}
+    for other in found:
         if other.kind == "impl" and other.owner == item.name and other.trait not in hidden:
-            known = [line for line in inside(rest) if re.match(r"    (type|ghost (?!use)).*;$", line) and "Prim." not in line]
-            methods = [part.head for part, _ in found if (part.owner, part.trait) == other[4:6] and "ensures" in part.head]
-            head = re.sub(r" \{\}?$", "", rest[2])
-            is_short = len(known) == 1 and not methods and len(head + known[0]) <= 120
-            made += said(other.docs) + ([f"{head} {{ {known[0].strip()} }}"] if is_short else [head, *known])
-            made += ["    " + method.replace("\n", "\n    ") for method in methods]
+            known = [line for line in other.body if re.match(r"    (type|ghost (?!use)).*;$", line) and "Prim." not in line]
+            known += [indent(part.head, "    ") for part in found if part[5:7] == other[5:7] and "ensures" in part.head]
+            is_short = len(known) == 1 and known[0].endswith(";") and len(other.head + known[0]) <= 120
+            made += said(other.docs) + ([f"{other.head} {{ {known[0].strip()} }}"] if is_short else [other.head, *known])
         elif other.kind in ("const", "fn") and (other.is_public and other.owner or other.trait) == item.name:
-            docs = next(part.docs for part, _ in found if part.name == other.name and part.docs and part.owner in (item.name, other.owner))
-            made += [*said(docs), "\n".join(declared(other, rest)).replace(f"{other.kind} ", f"{other.kind} {other.owner}::", 1)]
+            docs = next(part.docs for part in found if part.name == other.name and part.docs and part.owner in (item.name, other.owner))
+            made += [*said(docs), declared(other).replace(f"{other.kind} ", f"{other.kind} {other.owner}::", 1)]
     return "\n".join(made)
-
-
-def title_of(crate, module, text):
-    """Returns what the docstring of a file says first, with a link to the file."""
-    title = " ".join(re.findall(r"^//! (.*)", re.split(r"\n(?://!)?\n", text)[0], re.M))
-    return re.sub(LINK, r"\1", title) + f" [Source](../crates/{crate}/src/{module.replace('.', '/')}.rt)\n"
 
 
 def public_items():
     """Returns docs/API.md below its introduction: the public items, with what their docstrings say first, and their contracts."""
     made, of_top = "", lambda module: module.split(".")[0]
     for crate, order in LIBRARIES.items():
-        sources = dict(files(crate, "src"))
-        found = {module: [(item, ["", "", *text.split("\n")][item.line - 1 :]) for item in items(text)] for module, text in sources.items()}
-        exported = re.findall(r"\w+", " ".join(re.findall(r"^pub (?:use [\w:]+::|mod )([^;]*);", sources["lib"], re.M)))
-        shown = {module: [pair for pair in pairs if pair[0].is_public and not pair[0].owner and {pair[0].name, module} & {*exported}]
-                 for module, pairs in found.items()}
+        found = {module: [*items(text)] for module, text in files(crate, "src")}
+        exported = re.findall(r"\w+", " ".join(re.findall(r"^pub (?:use [\w:]+::|mod )([^;]*);", read(CRATES, crate, "src/lib.rt"), re.M)))
+        shown = {module: [item for item in here if item.is_public and not item.owner and {item.name, module} & {*exported}]
+                 for module, here in found.items()}
         made += f"\n## The crate `{crate}`\n"
         for top, modules in groupby(sorted(filter(shown.get, shown), key=lambda name: [*order, of_top(name)].index(of_top(name))), of_top):
-            titles, pairs = zip(*((title_of(crate, module, sources[module]), shown[module]) for module in modules))
-            head = "- ".join([""] * (len(titles) > 1) + [*titles])
-            code = "\n\n".join(entry(*pair, sum(found.values(), [])) for pair in sum(pairs, []))
-            made += f"\n### {top}\n\n{head}\n```rust\n{code}\n```\n"
+            places = {module: f"../crates/{crate}/src/{module.replace('.', '/')}.rt" for module in modules}
+            titles = [f"{' '.join(said(found[module][0].docs, ''))} [Source]({place})\n" for module, place in places.items()]
+            code = "\n\n".join(entry(item, sum(found.values(), [])) for module in places for item in shown[module])
+            made += f"\n### {top}\n\n{'- '.join([''] * (len(titles) > 1) + titles)}\n```rust\n{code}\n```\n"
     return made
