@@ -7,7 +7,7 @@ from textwrap import dedent, indent
 from copies import CRATES, read
 
 IMPL = re.compile(r"impl(?:<[^>]*>)? ((?:(?:\w+::)*(\w+)(?:<.*>)? for )?(\w+))")
-ITEM = re.compile(r"( *)(pub )?(?:pub\(\w+\) )?(?:unsafe |const (?=fn ))?(const|enum|fn|struct|trait) (\w+)")
+ITEM = re.compile(r" *(pub )?(?:pub\(\w+\) )?(?:unsafe |const (?=fn ))?(const|enum|fn|struct|trait) (\w+)")
 # The libraries, each with the order of its modules. Those that are not named follow in alphabetical order.
 LIBRARIES = {"humantime": ["duration", "date", "value", "wrapper", "calendar", "laws"], "humantime_std": [], "humantime_settings": []}
 LINK = r"\[(`[^`]*`)\](?:\([^)]*\))?"
@@ -24,28 +24,24 @@ def files(crate, folder):
 Item = namedtuple("Item", "kind name line docs attributes owner trait is_public head body", defaults=[[], "", "", False, "", []])
 
 
-def inside(lines):
-    """Returns the lines in the braces of the item that begins at the first of these lines."""
-    return "\n".join(lines[1:]).partition("\n}")[0].split("\n") if lines[0].endswith("{") else []
-
-
 def items(text):
     """Yields the items of a source file, in order. A docstring above anything else is an item of the kind `docs`."""
     owner, trait, docs, attributes, lines = "", "", [], [], text.split("\n")
     for number, line in enumerate(lines, 1):
+        rest = "\n".join(lines[number - 1 :])
+        body = rest.partition("\n}")[0].split("\n")[1:] if line.endswith("{") else []
         if found := re.match(r" *//[/!] ?(.*)", line):
             docs.append(found[1].rstrip())
         elif found := re.match(r" *(#\[.*)", line):
             attributes.append(found[1])
         elif found := IMPL.match(line):
             owner, trait, head = found[3], found[2] or "", re.sub(r" \{\}?$", "", line)
-            yield Item("impl", found[1], number, docs, attributes, owner, trait, False, head, inside(lines[number - 1 :]))
+            yield Item("impl", found[1], number, docs, attributes, owner, trait, False, head, body)
         elif found := ITEM.match(line):
-            head = dedent(re.split(r"\s*\{\}?$|(?<=;)$", "\n".join(lines[number - 1 :]), maxsplit=1, flags=re.M)[0]).removeprefix("pub ")
+            head = dedent(re.split(r"\s*\{\}?$|(?<=;)$", rest, maxsplit=1, flags=re.M)[0]).removeprefix("pub ")
             head = re.sub(r",\n\s+(?=[a-z_]+:)", ", ", re.sub(r",\s*\n\)", ")", re.sub(r"\(\s*\n\s*", "(", head)))
-            of_impl = (owner, trait) if found[1] else ("", "")
-            yield Item(found[3], found[4], number, docs, attributes, *of_impl, bool(found[2]), head, inside(lines[number - 1 :]))
-            owner = found[4] if found[3] == "trait" else owner
+            yield Item(found[2], found[3], number, docs, attributes, owner, trait, bool(found[1]), head, body)
+            owner = found[3] if found[2] == "trait" else owner
         elif docs:
             yield Item("docs", "", number - len(docs), docs)
         if re.match(r"\}$|\S.*\{\}$", line):
