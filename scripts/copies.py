@@ -17,8 +17,7 @@ for name, others in STANDS_ON.items():
     BELOW[name] = {name}.union(*(BELOW.get(other, ()) for other in others))
 
 if {"--help", "-h"} & set(sys.argv[1:]):
-    print(sys.modules["__main__"].__doc__)
-    sys.exit()
+    sys.exit(print(sys.modules["__main__"].__doc__))
 
 
 def read(*path):
@@ -94,7 +93,8 @@ def builds(crate):
     return made or [str(paths[0])] * (f"rt: running out/{crate};" in said) or sys.exit(f"{crate} was not built: {said[-3000:]}")
 
 
-def finish(script, passed, failed):
-    """Prints what failed, and the last line. Exits with status 0 if something passed and nothing failed."""
-    print(*failed, f"{script}: {passed} passed, {len(failed)} failed", sep="\n")
+def finish(script, passed, failed, reported=""):
+    """Prints what failed, what was reported as wanted, and the last line. Exits with status 0 if something passed and nothing failed."""
+    said = [f"{script}: {reported} reported, as wanted"] if reported else []
+    print(*failed, *said, f"{script}: {passed} passed, {len(failed)} failed", sep="\n")
     sys.exit(1 if failed or not passed else 0)
