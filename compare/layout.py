@@ -13,6 +13,7 @@ import subprocess
 import sys
 import tempfile
 from pathlib import Path
+from string import Template
 
 HERE = Path(__file__).resolve().parent
 ROOT = HERE.parent
@@ -61,7 +62,12 @@ def repository(work):
         for function in re.findall(r"^fn (\w+)", main.read_text(encoding="utf-8"), re.M):
             shutil.rmtree(crates / EXPORTS / "proofs" / function, ignore_errors=True)
         main.unlink()
-        shutil.copy(HERE / "src" / "exports.rt.txt", main.with_name("lib.rt"))
+        # The functions at its end are written for each row of the table above them.
+        shared, end = (HERE / "src/exports.rt.txt").read_text(encoding="utf-8").split("\n//: ", 1)
+        table, functions = end.split("\n\n", 1)
+        names, *rows = [row.split() for row in table.split("\n//: ")]
+        made = [shared, *(Template(functions).substitute(dict(zip(names, row))) for row in rows)]
+        main.with_name("lib.rt").write_text("\n".join(made), encoding="utf-8")
         Path(top, "crates.txt").write_text(f"humantime: itoa\n{EXPORTS} staticlib: humantime\n")
         run(["git", "init", "-q", top], ROOT)
         yield Path(top)

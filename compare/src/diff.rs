@@ -32,8 +32,7 @@ where
     } else if let Err(error) = by_library {
         let messages = (error.to_string(), parser.message_by_library(text));
         if messages.0 != messages.1 && messages.0.len() <= 256 {
-            let rows = explained::message(&messages.0, &messages.1).into_iter().collect();
-            counts.differs(rows, || format!("messages of {} {text:?}: {messages:?}", parser.name));
+            counts.differs(Vec::new(), || format!("messages of {} {text:?}: {messages:?}", parser.name));
         }
     }
 }

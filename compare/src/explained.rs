@@ -33,14 +33,6 @@ rows! {
     BYTES_AFTER_ZONE: "one to five bytes after a `Z` that follows the seconds",
 }
 
-/// The rows about messages of the same error: each with a part of the crate's message, and with what the library writes there.
-const MESSAGES: &[(Row, &str, &str)] = &[];
-
-/// Returns the row that lists the difference of these messages.
-pub fn message(by_crate: &str, by_library: &str) -> Option<Row> {
-    MESSAGES.iter().find(|(_, old, new)| by_crate.replace(old, new) == by_library).map(|(row, ..)| *row)
-}
-
 /// Returns the row that lists the difference of these results of a parser of timestamps.
 pub fn moment(text: &str, by_crate: &Caught<SystemTime, TimestampError>, by_library: &Result<SystemTime, TimestampError>) -> Option<Row> {
     let end = text.as_bytes().get(19..)?;
