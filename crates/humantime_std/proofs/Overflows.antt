@@ -86,16 +86,12 @@ no_span : (first : Bool) (text rest : List ℕ) (k : ℕ) (e : Fault) → fault_
 unfolding left_at walk
 no_span first text rest k e stops = grind (arith, common_steps, gets)
 
--- A span at a rest is the next item.
-span_first : (first : Bool) (text rest : List ℕ) → fault_at text rest ≡ None → left_at first text rest ≡ Ok (view_at text rest) ∷ left_at false text (next_of rest)
-unfolding left_at
-span_first first text rest goes = grind (arith, common_steps, (walk-go text rest goes))
-
 -- The item at an index, if it is no error, is the span there.
 item_at : (first : Bool) (text rest : List ℕ) (k : ℕ)
     → SomeIff (option_and_then result_ok (slice_get (left_at first text rest) k)) (BeginsSpans (suc k) rest) (view_at text (drop_spans k rest))
-item_at first text rest zero = grind (arith, (none_or_some (fault_at text rest)), (is_fine text rest), (fine_goes text rest), (span_first first text rest), (no_span first text rest 0))
-item_at first text rest (suc k) = grind (arith, (none_or_some (fault_at text rest)), (is_fine text rest), (fine_goes text rest), (span_first first text rest), (no_span first text rest (suc k)), (item_at false text (next_of rest) k))
+unfolding left_at
+item_at first text rest zero = grind (arith, common_steps, (none_or_some (fault_at text rest)), (is_fine text rest), (fine_goes text rest), (walk-go text rest), (no_span first text rest 0))
+item_at first text rest (suc k) = grind (arith, common_steps, (none_or_some (fault_at text rest)), (is_fine text rest), (fine_goes text rest), (walk-go text rest), (no_span first text rest (suc k)), (item_at false text (next_of rest) k))
 
 -- What `nth` of the spans returned, if it is no error, is the span at this index.
 pub nth_is : (text : List ℕ) (it u : SpanIter) (r : Option (Result Span DurationError)) (k : ℕ) → AreItems text (items_left it) → SkipsThenYields GivesItem it k r u
