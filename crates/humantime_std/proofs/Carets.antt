@@ -1,5 +1,5 @@
 -- What stands under a line up to a part, piece by piece.
-use Rattle.std.proofs.Common.{arith, ◌≡◌, ◌==◌, ℕ, ◌-◌, ◌<◌, ◌≤◌, true, not, List, [], ◌∷◌, ◌++◌, length, drop, get_or, map, refl, sym, ap, subst, append_assoc, replicate}
+use Rattle.std.proofs.Common.{arith, ◌≡◌, ◌==◌, ℕ, zero, suc, ◌-◌, ◌<◌, ◌≤◌, true, not, List, [], ◌∷◌, ◌++◌, length, drop, get_or, map, refl, sym, ap, subst, append_assoc, replicate}
 use Rattle.std.proofs.Output.{has_written_styled_append, has_written_styled_of_eq}
 use Rattle.std.proofs.lemmas.List.{get_or-drop, length-drop}
 use Rattle.std.proofs.lemmas.List.Splits.{slice_split_first, slice_split_none, length-slice_split}
@@ -7,7 +7,7 @@ use Rattle.std.proofs.lemmas.List.Sums.{fails_before_first, suffix_len_is}
 use Rattle.std.proofs.lemmas.Str.Pattern.{NoCharPasses-char}
 use Rattle.std.specs.Fmt.{HasWritten, HasWrittenStyled, IsDefaultSpec, IsPlainFormatter}
 use Rattle.std.specs.declared.fmt.Formatter.{Formatter}
-use Rattle.std.specs.List.{position_or_len, before_first, after_last, after_first, join_with_byte, slice_split}
+use Rattle.std.specs.List.{position_or_len, before_first, after_last, after_first, join_with_byte, repeat, slice_split}
 use Rattle.std.specs.Prelude.{max}
 use Rattle.std.specs.Str.{NoCharPasses}
 use Rattle.humantime_std.specs.Carets.{columns, blanks, caret_line, is_line_feed, is_tab}
@@ -16,6 +16,11 @@ use Rattle.humantime_std.specs.Carets.{columns, blanks, caret_line, is_line_feed
 pub written_plainly : {W : Type 0} (took : W → List ℕ → W → Type 0) (f : Formatter W) (bs : List ℕ) (g : Formatter W)
     → IsPlainFormatter f → HasWrittenStyled took f bs g → HasWritten took f bs g
 written_plainly took f bs g plain w = record { wrote = w.wrote; plain = record { bare = subst IsDefaultSpec (sym w.spec) plain.bare; flush = w.flush } }
+
+-- One byte, many times.
+repeated : (n c : ℕ) → repeat n (c ∷ []) ≡ replicate n c
+repeated zero c = refl
+repeated (suc n) c = ap (c ∷◌) (repeated n c)
 
 joined : (f : List ℕ → List ℕ) (x : List ℕ) (pieces : List (List ℕ)) → 0 < length pieces
     → join_with_byte 9 (x ∷ map f pieces) ≡ x ++ (9 ∷ join_with_byte 9 (map f pieces))
@@ -30,29 +35,29 @@ pub record Under {W : Type 0} (took : W → List ℕ → W → Type 0) (f : Form
 
 -- No tab follows.
 pub last_piece : {W : Type 0} {took : W → List ℕ → W → Type 0} {f g h : Formatter W} {rest before : List ℕ} {n : ℕ} → Under took f rest before g
-    → HasWrittenStyled took g (replicate n 32) h → n ≡ columns rest → position_or_len is_tab rest ≡ length rest → HasWrittenStyled took f (blanks before) h
+    → HasWrittenStyled took g (repeat n (32 ∷ [])) h → n ≡ columns rest → position_or_len is_tab rest ≡ length rest → HasWrittenStyled took f (blanks before) h
 last_piece {took} {f} {g} {h} {rest} {before} {n} now filled width none =
     let one = slice_split_none is_tab rest (λ k d few. fails_before_first is_tab rest k d (omega (arith, none))) in
     let last : blanks rest ≡ replicate n 32 = rw (one, width) refl in
-    has_written_styled_of_eq took f _ _ h (rw (← last) now.whole) (has_written_styled_append took f _ g _ h now.wrote filled)
+    has_written_styled_of_eq took f _ _ h (rw (← last) now.whole) (has_written_styled_append took f _ g _ h now.wrote (rw (repeated n 32) at filled))
 
 -- A piece and the next tab are written.
 pub next_piece : {W : Type 0} {took : W → List ℕ → W → Type 0} {f g h i : Formatter W} {rest after before : List ℕ} {n : ℕ} (piece : List ℕ) → Under took f rest before g
-    → HasWrittenStyled took g (replicate n 32) h → HasWrittenStyled took h (9 ∷ []) i → n ≡ columns piece
+    → HasWrittenStyled took g (repeat n (32 ∷ [])) h → HasWrittenStyled took h (9 ∷ []) i → n ≡ columns piece
     → (piece ≡ before_first is_tab rest) × (after ≡ after_first is_tab rest) × (position_or_len is_tab rest < length rest) → Under took f after before i
 next_piece {took} {f} {g} {h} {i} {rest} {after} {before} {n} piece now filled tab width is =
     let parts = slice_split_first is_tab rest 0 is.2 in
     let more = joined (λ p. replicate (columns p) 32) (replicate (columns piece) 32) (slice_split is_tab after) (omega (arith, length-slice_split is_tab after)) in
     let next : blanks rest ≡ replicate n 32 ++ (9 ∷ blanks after) = rw (parts, width, ← is.0, ← is.1) more in record {
       done = _;
-      wrote = has_written_styled_append took f _ h _ i (has_written_styled_append took f _ g _ h now.wrote filled) tab;
+      wrote = has_written_styled_append took f _ h _ i (has_written_styled_append took f _ g _ h now.wrote (rw (repeated n 32) at filled)) tab;
       whole = simp append_assoc (rw next at now.whole);
     }
 
 -- The carets are written.
 pub carets_written : {W : Type 0} {took : W → List ℕ → W → Type 0} {f g h : Formatter W} (before part : List ℕ) {n : ℕ} → HasWrittenStyled took f (blanks before) g
-    → HasWrittenStyled took g (replicate n 94) h → n ≡ max (columns part) 1 → HasWrittenStyled took f (caret_line before part) h
-carets_written {took} {f} {g} {h} before part {n} blank carets is = rw is at (has_written_styled_append took f _ g _ h blank carets)
+    → HasWrittenStyled took g (repeat n (94 ∷ [])) h → n ≡ max (columns part) 1 → HasWrittenStyled took f (caret_line before part) h
+carets_written {took} {f} {g} {h} before part {n} blank carets is = rw is at (has_written_styled_append took f _ g _ h blank (rw (repeated n 94) at carets))
 
 -- What follows a line feed, and has none, is the last line.
 pub last_line_is : (text : List ℕ) (j : ℕ) → j ≤ length text → NoCharPasses (λ c. c == 10) (drop j text) → (0 < j → get_or text (j - 1) 0 ≡ 10)

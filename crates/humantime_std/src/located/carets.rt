@@ -1,6 +1,6 @@
 //! The line in which an error is, and a caret line to print under it.
 
-ghost use Rattle.std.specs.Prelude.{◌≡◌, ◌<◌, Some, count_by, option_map, replicate};
+ghost use Rattle.std.specs.Prelude.{◌≡◌, Some, count_by, option_map};
 ghost use Rattle.std.specs.Fmt.{WritesStyledOnOk};
 ghost use Rattle.std.specs.List.{after_last, before_first};
 ghost use Rattle.humantime_std.specs.Carets.{blanks, caret_line, is_line_feed, report_text};
@@ -40,7 +40,7 @@ impl Display for Underline<'_> {
 
     fn fmt<W: fmt::Write>(&self, f: &mut fmt::Formatter<W>) -> fmt::Result {
         write_blanks(f, self.before)?;
-        fill(f, '^', self.part.width().max(1))
+        f.write_repeated("^", self.part.width().max(1))
     }
 }
 
@@ -89,22 +89,11 @@ fn write_blanks<W: fmt::Write>(f: &mut fmt::Formatter<W>, before: &str) -> fmt::
 {
     let mut rest = before;
     while let Some((piece, after)) = rest.split_once('\t') {
-        fill(f, ' ', piece.width())?;
+        f.write_repeated(" ", piece.width())?;
         f.write_str("\t")?;
         rest = after;
     }
-    fill(f, ' ', rest.width())
-}
-
-/// Writes an ASCII character as many times as there are columns.
-fn fill<W: fmt::Write>(f: &mut fmt::Formatter<W>, c: char, columns: usize) -> fmt::Result
-    requires { c < 128 }
-    ensures { WritesStyledOnOk W.write_str_gives f.old result (replicate columns c) f.new }
-{
-    for _i in 0..columns {
-        f.write_char(c)?;
-    }
-    Ok(())
+    f.write_repeated(" ", rest.width())
 }
 
 /// Returns the number of line feeds in a string.

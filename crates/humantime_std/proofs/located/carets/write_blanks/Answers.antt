@@ -7,11 +7,11 @@ loop-piece-preserved g c = record {
   utf8 = search rules;
   under = λ flush.
       let now = c.loop-piece.invariant.under flush in
-      let filled = c.in_ok-fill.ensures now.wrote.flush (search rules) in
+      let filled = c.in_ok-write_repeated.ensures.styled now.wrote.flush (search rules) in
       next_piece c.in-Some.piece.now now filled (c.in_ok-write_str.ensures.styled filled.flush (search rules)) (omega arith) (search rules);
 }
 
 pub returns : goal.returns
 returns g c = λ flush ok.
     let now = c.loop-piece.invariant.under flush in
-    last_piece now (c.fill-2.ensures now.wrote.flush ok) (omega arith) (search rules)
+    last_piece now (c.write_repeated-2.ensures.styled now.wrote.flush ok) (omega arith) (search rules)
