@@ -43,22 +43,19 @@ fn now_reads_the_clock(rt: HostRuntime) {
 #[test]
 fn the_clock_sleeps(rt: HostRuntime) {
     let clock = stopped_at(7, 0);
-    sleep(&clock, StdDuration::new(90, 5));
-    assert_eq!(rt; clock.slept.get(), Duration::new(90, 5));
-    sleep(&clock, StdDuration::new(0, 1));
-    assert_eq!(rt; clock.slept.get(), Duration::new(90, 6));
-    sleep(&clock, StdDuration::MAX);
-    assert_eq!(rt; clock.slept.get(), Duration::MAX);
+    for (pause, slept) in [
+        (StdDuration::new(90, 5), Duration::new(90, 5)), (StdDuration::new(0, 1), Duration::new(90, 6)), (StdDuration::MAX, Duration::MAX),
+    ] {
+        sleep(&clock, pause);
+        assert_eq!(rt; clock.slept.get(), slept);
+    }
 }
 
 #[test]
 fn elapsed_reads_the_clock(rt: HostRuntime) {
     let start = Instant::now(&stopped_at(7, 999_999_999)).expect(&rt, "no time");
-    let later = elapsed(&stopped_at(9, 4), start).expect(&rt, "no time");
-    assert_eq!(rt; later, StdDuration::new(1, 5));
-    let later = elapsed(&stopped_at(8, 0), start).expect(&rt, "no time");
-    assert_eq!(rt; later, StdDuration::new(0, 1));
-    let earlier = elapsed(&stopped_at(7, 0), start).expect(&rt, "no time");
-    assert_eq!(rt; earlier, StdDuration::ZERO);
+    for (secs, nanos, time) in [(9, 4, StdDuration::new(1, 5)), (8, 0, StdDuration::new(0, 1)), (7, 0, StdDuration::ZERO)] {
+        assert_eq!(rt; elapsed(&stopped_at(secs, nanos), start).expect(&rt, "no time"), time);
+    }
     assert!(rt; elapsed(&stopped_at(1 << 63, 0), start).is_err());
 }
