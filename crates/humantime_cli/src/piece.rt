@@ -25,26 +25,16 @@ impl Piece {
     ghost use Rattle.std.specs.Prelude.{◌≡◌, ◌==◌, ◌&&◌, not, [], take};
     ghost use Rattle.humantime_cli.specs.Pieces.{IsPiece};
 
-    /// Returns an empty piece of a string.
-    pub(crate) fn new() -> Piece
-        ensures { IsPiece 0 [] result }
+    /// Returns an empty piece of a string, from the offset `start` on.
+    pub(crate) fn new(start: usize) -> Piece
+        ensures { IsPiece start [] result }
     {
         Piece {
-            skip: 0,
+            skip: start,
             bytes: [0; PIECE_LEN],
             len: 0,
             is_cut: false,
         }
-    }
-
-    /// Empties the piece, and begins at the offset `start`.
-    #[inline(always)]
-    pub(crate) fn restart(&mut self, start: usize)
-        ensures { IsPiece start [] self.new }
-    {
-        self.skip = start;
-        self.len = 0;
-        self.is_cut = false;
     }
 
     /// Returns the bytes of the piece.

@@ -8,15 +8,14 @@ use crate::piece::{PIECE_LEN, Piece};
 use std::fmt::{self, Display, Write as _};
 use std::io::Write;
 
-/// Fills the piece from the offset `start` on with the line that [`write_line`] writes. It takes a reference, since a result that holds a
-/// piece is copied.
+/// Replaces the piece by the one from the offset `start` on of the line that [`write_line`] writes. A piece in a `Result` would be copied.
 #[inline(always)]
 #[tactic(auto, using(crate::proofs::PieceLemmas::lines))]
 fn fill<D: Display + Copy>(piece: &mut Piece, start: usize, value: D) -> fmt::Result
     requires { IsSome (D.output value) }
     ensures { OnOk result (IsPiece start (line (unwrap_or (D.output value) [])) piece.new) }
 {
-    piece.restart(start);
+    *piece = Piece::new(start);
     // `fmt::Write::write` of the kit displays a value.
     piece.write(value)?;
     piece.write_str("\n")
@@ -33,7 +32,7 @@ pub(crate) fn write_line<W: Write, D: Display + Copy>(to: &mut W, value: D) -> f
     requires { IsSome (D.output value) }
     ensures { Writes result (W.contents to.old) (W.contents to.new) (line (unwrap_or (D.output value) [])) }
 {
-    let mut piece = Piece::new();
+    let mut piece = Piece::new(0);
     let mut done: usize = 0;
     while done <= usize::MAX - PIECE_LEN {
         fill(&mut piece, done, value)?;
