@@ -1,4 +1,3 @@
-pub mod Callers
 pub mod CaretColumns
 pub mod Kept
 pub mod LimitFacts

@@ -1,6 +1,6 @@
 -- What holds of any date, timestamp, moment and run of a job: each rule written out.
-use Rattle.std.proofs.Common.{◌≡◌, ◌≢◌, ◌↔◌, ◌⊎◌, ℕ, ◌+◌, ◌-◌, ◌*◌, ◌/◌, ◌%◌, ◌^◌, ◌≤◌, List, [], ◌∷◌, ◌++◌, None, Some, length, take, drop, refl, inl, inr, arith}
-use Rattle.std.specs.Prelude.{ℤ, ◌+ℤ◌, ◌≤ℤ◌, ◌<ℤ◌, pos, negsuc, Bool, true, false, ◌&&◌, ◌||◌, ◌==◌, nat_le, if◌then◌else◌, codes, min, option_map, slice_index, slice_range, nat_eq, IsTrue}
+use Rattle.std.proofs.Common.{◌≡◌, ◌≢◌, ◌↔◌, ℕ, ◌+◌, ◌-◌, ◌*◌, ◌/◌, ◌%◌, ◌^◌, ◌≤◌, List, [], ◌∷◌, ◌++◌, None, Some, suc, length, take, drop, refl, arith}
+use Rattle.std.specs.Prelude.{ℤ, ◌+ℤ◌, ◌≤ℤ◌, ◌<ℤ◌, pos, negsuc, Bool, true, false, ◌&&◌, ◌||◌, ◌==◌, nat_le, if◌then◌else◌, codes, min, not, option_map, slice_index, slice_range, nat_eq, IsTrue}
 use Rattle.std.specs.Char.{is_ascii_digit}
 use Rattle.std.specs.List.{ends_with, list_all}
 use Rattle.std.specs.Str.{byte, all_ascii_digits}
@@ -10,28 +10,41 @@ use Rattle.humantime.specs.declared.date.error.TimestampError.{TimestampError}
 use Rattle.humantime.specs.declared.date.error.TimestampError.TheVariants.{OutOfRange, InvalidDigit, InvalidFormat}
 use Rattle.humantime.specs.Prelude.{cut, places_of, IsPrintable, IsPrinted, IsStrictMoment, IsWeakMoment, ReadsAs}
 use Rattle.humantime.specs.Characters.{decimal_value}
-use Rattle.humantime.specs.Calendar.{IsDate, days_in_month, is_valid, day_of}
-use Rattle.humantime.specs.Timestamps.{date_time_of, ends_in_zone, first_failed, fraction_part, has_two, is_valid_date_time, strict_checks, weak_checks, Fields, Separator, Letter_T, Space, Zone, NoZone, Letter_Z, ZeroOffset, IsStrict, IsWeak, fields_text, fraction_digits, fraction_nanos, fraction_text, moment_of, separator_byte, zone_text}
+use Rattle.humantime.specs.declared.calendar.Date.{Date}
+use Rattle.humantime.specs.Calendar.{IsDate, days_in_month, days_of_months, days_of_years, is_valid, day_of}
+use Rattle.humantime.specs.Timestamps.{date_time_of, ends_in_zone, first_failed, fraction_part, has_two, is_valid_date_time, strict_checks, weak_checks, Fields, Letter_T, Space, NoZone, Letter_Z, ZeroOffset, IsStrict, IsWeak, fields_text, fraction_digits, fraction_nanos, fraction_text, moment_of, separator_byte, zone_text}
 use Rattle.humantime.proofs.OnLiterals.{timestamps_on_literals}
 use Rattle.humantime_std.specs.Schedule.{IsDue}
+
+-- ---- days
+
+-- Months have these lengths. Years and months are counted one by one, and a year is its twelve months.
+any_month : (y m : ℕ) → let leap = (y % 4 == 0) && (not (y % 100 == 0) || (y % 400 == 0)) in
+    days_in_month y m ≡ (if m == 2 then (if leap then 29 else 28) else (if (m == 4) || (m == 6) || (m == 9) || (m == 11) then 30 else 31))
+any_month y m = refl
+
+any_count : (y n : ℕ) → (days_of_years 0 ≡ 0) × (days_of_years (suc n) ≡ days_of_years n + days_of_months (1970 + n) 12)
+    × (days_of_months y 0 ≡ 0) × (days_of_months y (suc n) ≡ days_of_months y n + days_in_month y (suc n))
+unfolding days_of_years days_of_months
+any_count y n = (refl, grind (arith, nat_tests), refl, refl)
+
+any_date : (d : Date) → day_of d ≡ days_of_years (d.year - 1970) + days_of_months d.year (d.month - 1) + (d.day - 1)
+any_date d = refl
 
 -- ---- errors
 
 -- The first of these checks that fails gives the error, after that for a `T` and a zone in the strict form.
-any_checks : (b : List ℕ)
-    → weak_checks b
+any_checks : (b : List ℕ) → let at = slice_index b in
+    (weak_checks b
     ≡ (nat_le 19 (length b), InvalidFormat)
-    ∷ (
-      (slice_index b 4 == byte "-") && (slice_index b 7 == byte "-") && ((slice_index b 10 == byte "T") || (slice_index b 10 == byte " "))
-          && (slice_index b 13 == byte ":") && (slice_index b 16 == byte ":"),
-      InvalidFormat,
-    )
+    ∷ ((at 4 == byte "-") && (at 7 == byte "-") && ((at 10 == byte "T") || (at 10 == byte " ")) && (at 13 == byte ":") && (at 16 == byte ":"), InvalidFormat)
     ∷ (list_all (λ k. has_two b k) (0 ∷ 2 ∷ 5 ∷ 8 ∷ 11 ∷ 14 ∷ 17 ∷ []), InvalidDigit)
     ∷ (is_valid_date_time (date_time_of b), OutOfRange)
     ∷ ((length (fraction_part b) == 0) || (slice_index (fraction_part b) 0 == byte "."), InvalidFormat)
-    ∷ (all_ascii_digits (drop 1 (fraction_part b)), InvalidDigit) ∷ []
+    ∷ (all_ascii_digits (drop 1 (fraction_part b)), InvalidDigit) ∷ [])
+    × (strict_checks b ≡ (nat_le 20 (length b) && (at 10 == byte "T") && ends_in_zone b, InvalidFormat) ∷ weak_checks b)
 unfolding timestamps_on_literals
-any_checks b = refl
+any_checks b = (refl, refl)
 
 any_parts : (b : List ℕ) (k : ℕ) (x : _) (y m d : ℕ)
     → (has_two b k ≡ (is_ascii_digit (slice_index b k) && is_ascii_digit (slice_index b (k + 1))))
@@ -48,11 +61,6 @@ any_part : (b : List ℕ) → let rest = drop 19 b in let ends = ends_with nat_e
     × (fraction_part b ≡ take (length rest - length (zone_text zone)) rest)
 unfolding timestamps_on_literals
 any_part b = (refl, refl)
-
-strict_check : (b : List ℕ)
-    → strict_checks b ≡ (nat_le 20 (length b) && (slice_index b 10 == byte "T") && ends_in_zone b, InvalidFormat) ∷ weak_checks b
-unfolding timestamps_on_literals
-strict_check b = refl
 
 first_error : (e : TimestampError) (others : List (Bool × TimestampError))
     → (first_failed ((true, e) ∷ others) ≡ first_failed others) × (first_failed ((false, e) ∷ others) ≡ Some e)
@@ -82,17 +90,10 @@ any_text : (f : Fields) → let y = f.date.year in
     ++ separator_byte f.separator ∷ two f.hour ++ byte ":" ∷ two f.minute ++ byte ":" ∷ two f.second ++ fraction_text f.fraction ++ zone_text f.zone
 any_text f = refl
 
-separators : (s : Separator) → (separator_byte s ≡ byte "T") ⊎ (separator_byte s ≡ byte " ")
-separators Letter_T = inl refl
-separators Space = inr refl
-
-zones : (z : Zone) → (zone_text z ≡ []) ⊎ ((zone_text z ≡ codes "Z") ⊎ (zone_text z ≡ codes "+00:00"))
-zones NoZone = inl refl
-zones Letter_Z = inr (inl refl)
-zones ZeroOffset = inr (inr refl)
-
-points : (ds : List ℕ) → (fraction_text None ≡ []) × (fraction_text (Some ds) ≡ byte "." ∷ ds)
-points ds = (refl, refl)
+any_mark : (ds : List ℕ) → (separator_byte Letter_T ≡ byte "T") × (separator_byte Space ≡ byte " ")
+    × (zone_text NoZone ≡ []) × (zone_text Letter_Z ≡ codes "Z") × (zone_text ZeroOffset ≡ codes "+00:00")
+    × (fraction_text None ≡ []) × (fraction_text (Some ds) ≡ byte "." ∷ ds)
+any_mark ds = (refl, refl, refl, refl, refl, refl, refl)
 
 -- Second 60 counts as second 59, and nine digits of a fraction count.
 any_moment : (f : Fields)

@@ -8,7 +8,6 @@
 pub mod buffers;
 pub mod calendar;
 pub mod carets;
-pub mod counted_calendar;
 pub mod displays;
 pub mod durations;
 pub mod laws;

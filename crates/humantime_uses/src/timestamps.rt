@@ -61,7 +61,6 @@ pub fn is_stamp(text: &str) -> bool
 }
 
 /// Compares two such stamps by their bytes, which are ordered like the times that they denote.
-#[tactic(auto, using(crate::proofs::Callers::millis_in_order))]
 pub fn compare_stamps(stamp: &str, other: &str) -> Ordering
     ensures { (a : ℤ) (b : ℤ) → IsPrintedWith 3 stamp.now → IsPrintedWith 3 other.now → strict_answer stamp.now ≡ Ok a → strict_answer other.now ≡ Ok b → result ≡ int_cmp a b }
 {
