@@ -6,17 +6,12 @@ use Rattle.std.proofs.lemmas.List.{length-replicate}
 use Rattle.std.proofs.lemmas.List.Elements.{All-append, All-cons, All-nil, All-replicate}
 use Rattle.std.proofs.lemmas.List.Splits.{length-slice_split, slice_split_at, slice_split_none}
 use Rattle.std.proofs.lemmas.Str.{chars-IsAscii}
+use Rattle.std.proofs.lemmas.Str.Ascii.{IsAscii-from_all}
 use Rattle.std.specs.Int.{is_in_range}
-use Rattle.std.specs.Str.{IsAscii}
 use Rattle.unicode_width.specs.Width.{str_width}
 use Rattle.unicode_width.proofs.Rules.{str_width-printable}
 use Rattle.humantime_std.specs.Carets.{blanks, caret_line, columns, is_line_feed, is_tab, line_number, report_text}
 use Rattle.humantime_uses.specs.CaretColumns.{ShowsRange, StandsUnder, column_of_pieces, line_after, line_before, line_feeds}
-
-ascii : (n : ℕ) → IsAscii (replicate n 32)
-ascii zero i = omega arith
-ascii (suc n) zero = omega arith
-ascii (suc n) (suc i) = ascii n i
 
 printable : (n : ℕ) → list_all (is_in_range 0x20 0x7E) (replicate n 32) ≡ true
 printable zero = refl
@@ -24,7 +19,9 @@ printable (suc n) = printable n
 
 -- A space has one column.
 columns_of_spaces : (n : ℕ) → columns (replicate n 32) ≡ n
-columns_of_spaces n = ap (str_width false) (chars-IsAscii (replicate n 32) (ascii n)) ∙ str_width-printable false (replicate n 32) (printable n) ∙ length-replicate n 32
+columns_of_spaces n =
+    let ascii = IsAscii-from_all (replicate n 32) (All-replicate (λ b. b < 128) n 32 (omega arith)) in
+    ap (str_width false) (chars-IsAscii (replicate n 32) ascii) ∙ str_width-printable false (replicate n 32) (printable n) ∙ length-replicate n 32
 
 abbrev spaces : List ℕ → List ℕ
 spaces piece = replicate (columns piece) 32

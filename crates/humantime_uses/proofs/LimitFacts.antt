@@ -1,10 +1,11 @@
 -- The limits of any number, any fraction and any sum, what any span adds, both also as while trailing zeros of a fraction counted, and how
 -- any count is printed: each rule written out, so that it holds at every value.
 use Rattle.std.proofs.Common.{◌≡◌, ◌∙◌, ◌↔◌, ℕ, ◌+◌, ◌*◌, ◌/◌, ◌%◌, ◌^◌, ◌≤◌, List, [], ◌∷◌, ◌++◌, Some, None, length, refl, sym, ap, arith}
-use Rattle.std.specs.Prelude.{codes, decimal, Bool, true, false, ◌&&◌, ◌||◌, ◌==◌, nat_le, nat_lt, if◌then◌else◌, option_map, sum_by, unwrap_or, IsSome}
+use Rattle.std.specs.Prelude.{codes, decimal, Bool, true, false, ◌&&◌, ◌||◌, ◌==◌, nat_le, nat_lt, if◌then◌else◌, option_map, sum_by, unwrap_or, IsSome, Option}
 use Rattle.std.specs.List.{AllByRecursion, zip}
 use Rattle.std.specs.Str.{byte}
 use Rattle.std.proofs.lemmas.Bool.Decides.{nat_tests}
+use Rattle.humantime.specs.declared.unit.Scale.{Scale}
 use Rattle.humantime.specs.Characters.{decimal_value, without_trailing_zeros}
 use Rattle.humantime.specs.Durations.{in_nanos, in_seconds, in_seconds_and_nanos, scale_of_word, whole_nanos, SpelledSpan, Reads, Accepted, AllHaveRoom, BareZero, SumOf, Formed, WithinLimits, additions, additions_of, fits, fraction_additions, fraction_fits, has_room, has_too_many_digits, of_kind, quantity_nanos, size, times, too_long, total, value}
 use Rattle.humantime.specs.Laws.{OlderFormed, OlderFraction, older_additions, older_additions_of, older_fraction_additions, older_value, AcceptedWithZeros, OlderZero, OlderSum}
@@ -20,54 +21,43 @@ small n = nat_le n greatest
 
 -- ---- units
 
--- A unit adds seconds or nanoseconds, and so do its fractions: how many of them, and how many nanoseconds these are.
-in_nanoseconds : (n : ℕ) → let unit = in_nanos n in
-    (size unit.whole ≡ n) × (quantity_nanos unit.whole ≡ n) × (option_map size unit.part ≡ Some n) × (option_map quantity_nanos unit.part ≡ Some n)
-in_nanoseconds n = (refl, refl, refl, refl)
+-- A unit adds seconds or nanoseconds, and so do its fractions, if it has any: how many of them, and how many nanoseconds these are.
+abbrev amounts : Scale → (ℕ × ℕ) × Option (ℕ × ℕ)
+amounts unit = ((size unit.whole, quantity_nanos unit.whole), option_map (λ x. (size x, quantity_nanos x)) unit.part)
 
-short_seconds : (n : ℕ) → let unit = in_seconds_and_nanos n in let nanos = n * 1_000_000_000 in
-    (size unit.whole ≡ n) × (quantity_nanos unit.whole ≡ nanos) × (option_map size unit.part ≡ Some nanos) × (option_map quantity_nanos unit.part ≡ Some nanos)
-short_seconds n = (refl, refl, refl, refl)
-
-long_seconds : (n : ℕ) → let unit = in_seconds n in let nanos = n * 1_000_000_000 in
-    (size unit.whole ≡ n) × (quantity_nanos unit.whole ≡ nanos) × (option_map size unit.part ≡ Some n) × (option_map quantity_nanos unit.part ≡ Some nanos)
-long_seconds n = (refl, refl, refl, refl)
-
-nanosecond : (size whole_nanos.whole ≡ 1) × (quantity_nanos whole_nanos.whole ≡ 1) × (whole_nanos.part ≡ None)
-nanosecond = (refl, refl, refl)
-
-same_kind : (m n : ℕ) → (of_kind (in_nanos m).whole n ≡ (in_nanos n).whole) × (of_kind (in_seconds m).whole n ≡ (in_seconds n).whole)
-same_kind m n = (refl, refl)
+any_unit : (m n : ℕ) → let nanos = n * 1_000_000_000 in
+    (amounts whole_nanos ≡ ((1, 1), None)) × (amounts (in_nanos n) ≡ ((n, n), Some (n, n)))
+    × (amounts (in_seconds_and_nanos n) ≡ ((n, nanos), Some (nanos, nanos))) × (amounts (in_seconds n) ≡ ((n, nanos), Some (n, nanos)))
+    × (of_kind (in_nanos m).whole n ≡ (in_nanos n).whole) × (of_kind (in_seconds m).whole n ≡ (in_seconds n).whole)
+any_unit m n = (refl, refl, refl, refl, refl, refl)
 
 -- ---- digits
 
-trailing_zeros : (ds : List ℕ) → (without_trailing_zeros [] ≡ []) × (without_trailing_zeros (ds ++ codes "0") ≡ without_trailing_zeros ds)
+trailing_zeros : (ds : List ℕ) (d : ℕ) → (without_trailing_zeros [] ≡ []) × (without_trailing_zeros (ds ++ codes "0") ≡ without_trailing_zeros ds)
+    × ((d == byte "0") ≡ false → without_trailing_zeros (ds ++ d ∷ []) ≡ ds ++ d ∷ [])
 unfolding without_trailing_zeros
-trailing_zeros ds = (refl, significant_zero ds)
-
-last_digit : (ds : List ℕ) (d : ℕ) → (d == byte "0") ≡ false → without_trailing_zeros (ds ++ d ∷ []) ≡ ds ++ d ∷ []
-last_digit ds d other = significant_last ds d other
+trailing_zeros ds d = (refl, significant_zero ds, significant_last ds d)
 
 -- A number has to fit 64 bits, and a fraction may have nineteen digits without its trailing zeros.
-any_length : (s : SpelledSpan) → too_long s ≡ (nat_lt greatest (decimal_value s.number) || has_too_many_digits s.fraction)
-any_length s = refl
+any_length : (s : SpelledSpan) (fs : List ℕ) → (too_long s ≡ (nat_lt greatest (decimal_value s.number) || has_too_many_digits s.fraction))
+    × (has_too_many_digits None ≡ false) × (has_too_many_digits (Some fs) ≡ nat_lt 19 (length (without_trailing_zeros fs)))
+any_length s fs = (refl, refl, refl)
 
-nineteen : (fs : List ℕ) → (has_too_many_digits None ≡ false) × (has_too_many_digits (Some fs) ≡ nat_lt 19 (length (without_trailing_zeros fs)))
-nineteen fs = (refl, refl)
+-- ---- limits of a span of any unit, and what it adds
 
--- ---- limits of a span of any unit
-
--- The number times the size of the unit has to fit 64 bits, and the fraction has to fit.
-any_number : (s : SpelledSpan) (unit : _) → scale_of_word s.word ≡ Some unit
-    → fits s ≡ (small (decimal_value s.number * size unit.whole) && fraction_fits unit.part s.fraction)
-any_number s unit is = rw is refl
+-- The number times the size of the unit has to fit 64 bits, and the fraction has to fit. Both are added.
+any_number : (s : SpelledSpan) (unit : _) → scale_of_word s.word ≡ Some unit → let n = decimal_value s.number * size unit.whole in
+    (fits s ≡ (small n && fraction_fits unit.part s.fraction)) × (additions_of s ≡ of_kind unit.whole n ∷ fraction_additions unit.part s.fraction)
+any_number s unit is = (rw is refl, rw is refl)
 
 -- Without its trailing zeros, a fraction denotes a whole number of what it is a part of, and its product with this fits 64 bits. Of a fraction
--- of nanoseconds nothing is left.
-any_fraction : (part : _) (fs : List ℕ) → let ds = without_trailing_zeros fs in
-    (fraction_fits (Some part) (Some fs) ≡ (small (decimal_value ds * size part) && (decimal_value ds * size part % 10 ^ length ds == 0)))
+-- of nanoseconds nothing is left, and it adds nothing.
+any_fraction : (part : _) (fs : List ℕ) → let ds = without_trailing_zeros fs in let n = decimal_value ds * size part in
+    (fraction_fits (Some part) (Some fs) ≡ (small n && (n % 10 ^ length ds == 0)))
     × (fraction_fits None (Some fs) ≡ (length ds == 0)) × (fraction_fits (Some part) None ≡ true) × (fraction_fits None None ≡ true)
-any_fraction part fs = (refl, refl, refl, refl)
+    × (fraction_additions (Some part) (Some fs) ≡ of_kind part (n / 10 ^ length ds) ∷ [])
+    × (fraction_additions (Some part) None ≡ []) × (fraction_additions None (Some fs) ≡ []) × (fraction_additions None None ≡ [])
+any_fraction part fs = (refl, refl, refl, refl, refl, refl, refl, refl)
 
 -- ---- limits of a sum
 
@@ -92,17 +82,6 @@ any_spans text spans reads within = SumOf spans reads within refl
 
 zero : Accepted (codes "0") 0 × AcceptedWithZeros (codes "0") 0
 zero = (BareZero refl refl, OlderZero refl refl)
-
--- ---- what a span of any unit adds
-
-any_addition : (s : SpelledSpan) (unit : _) → scale_of_word s.word ≡ Some unit
-    → additions_of s ≡ of_kind unit.whole (decimal_value s.number * size unit.whole) ∷ fraction_additions unit.part s.fraction
-any_addition s unit is = rw is refl
-
-any_part : (part : _) (fs : List ℕ) → let ds = without_trailing_zeros fs in
-    (fraction_additions (Some part) (Some fs) ≡ of_kind part (decimal_value ds * size part / 10 ^ length ds) ∷ [])
-    × (fraction_additions (Some part) None ≡ []) × (fraction_additions None (Some fs) ≡ []) × (fraction_additions None None ≡ [])
-any_part part fs = (refl, refl, refl, refl)
 
 any_spans_add : (s : SpelledSpan) (spans : List SpelledSpan) → (additions (s ∷ spans) ≡ additions_of s ++ additions spans)
     × (value spans ≡ sum_by quantity_nanos (additions spans))
@@ -135,12 +114,10 @@ older_spans : (text : List ℕ) (spans : List SpelledSpan) → Reads text spans 
 older_spans text spans reads formed room = OlderSum spans reads formed room refl
 
 -- A span added its number and then its fraction, with all digits of both.
-older_addition : (s : SpelledSpan) (unit : _) → scale_of_word s.word ≡ Some unit
-    → older_additions_of s ≡ times (decimal_value s.number) unit.whole ∷ older_fraction_additions unit.part s.fraction
-older_addition s unit is = rw is refl
-
-older_part : (part : _) (ds : List ℕ) → older_fraction_additions (Some part) (Some ds) ≡ of_kind part (decimal_value ds * size part / 10 ^ length ds) ∷ []
-older_part part ds = refl
+older_addition : (s : SpelledSpan) (unit part : _) (ds : List ℕ) → (scale_of_word s.word ≡ Some unit
+    → older_additions_of s ≡ times (decimal_value s.number) unit.whole ∷ older_fraction_additions unit.part s.fraction)
+    × (older_fraction_additions (Some part) (Some ds) ≡ of_kind part (decimal_value ds * size part / 10 ^ length ds) ∷ [])
+older_addition s unit part ds = (λ is. rw is refl, refl)
 
 -- ---- printing
 

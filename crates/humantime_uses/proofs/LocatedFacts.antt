@@ -20,14 +20,10 @@ use Rattle.humantime_std.specs.Located.{IsFaultRange, char_end, error_range, fit
 -- ---- what can stand at a place
 
 -- A digit fits `0`, and of other bytes only themselves fit, but a `T` fits a space, which is no separator in the strict form.
-any_digit : (strict : Bool) (b : ℕ) → fits strict (byte "0") b ≡ is_ascii_digit b
-any_digit strict b = refl
-
-any_separator : (b : ℕ) → (fits false (byte " ") b ≡ ((b == byte "T") || (b == byte " "))) × (fits true (byte " ") b ≡ (b == byte "T"))
-any_separator b = (grind (arith, nat_tests), grind (arith, nat_tests))
-
-any_other : (strict : Bool) (b : ℕ) → (fits strict (byte "-") b ≡ (b == byte "-")) × (fits strict (byte ":") b ≡ (b == byte ":"))
-any_other strict b = (refl, refl)
+any_place : (strict : Bool) (b : ℕ) → (fits strict (byte "0") b ≡ is_ascii_digit b)
+    × (fits strict (byte "-") b ≡ (b == byte "-")) × (fits strict (byte ":") b ≡ (b == byte ":"))
+    × (fits false (byte " ") b ≡ ((b == byte "T") || (b == byte " "))) × (fits true (byte " ") b ≡ (b == byte "T"))
+any_place strict b = (refl, refl, refl, grind (arith, nat_tests), grind (arith, nat_tests))
 
 -- The first 19 bytes are compared with these, in order, up to the first that does not fit.
 any_layout : (strict : Bool) (b : List ℕ)
@@ -46,45 +42,30 @@ any_range : (strict : Bool) (b : List ℕ) (e : TimestampError)
 any_range strict b e = (grind (arith, nat_tests), grind (arith, nat_tests), grind (arith, nat_tests), grind (arith, nat_tests))
 
 -- The first number that is out of its bounds.
-any_year : (b : List ℕ) → number_between b 0 4 < 1970 → wrong_field b ≡ (0, 4)
-unfolding wrong_field
-any_year b early = grind (arith, nat_tests)
-
-any_month : (b : List ℕ) → 1970 ≤ number_between b 0 4 → (number_between b 5 7 < 1) ⊎ (12 < number_between b 5 7) → wrong_field b ≡ (5, 7)
-unfolding wrong_field
-any_month b year month = grind (arith, nat_tests)
-
-abbrev IsMonth : List ℕ → Type 0
-IsMonth b = (1970 ≤ number_between b 0 4) × (number_between b 0 4 ≤ 9999) × (1 ≤ number_between b 5 7) × (number_between b 5 7 ≤ 12)
-
-any_day : (b : List ℕ) → IsMonth b → (number_between b 8 10 < 1) ⊎ (days_in_month (number_between b 0 4) (number_between b 5 7) < number_between b 8 10)
-    → wrong_field b ≡ (8, 10)
+any_field : (b : List ℕ) → let number = number_between b in let year = number 0 4 in let month = number 5 7 in let day = number 8 10 in
+    (year < 1970 → wrong_field b ≡ (0, 4)) × (1970 ≤ year → (month < 1) ⊎ (12 < month) → wrong_field b ≡ (5, 7))
+    × (1970 ≤ year → year ≤ 9999 → 1 ≤ month → month ≤ 12
+    → ((day < 1) ⊎ (days_in_month year month < day) → wrong_field b ≡ (8, 10))
+    × (1 ≤ day → day ≤ days_in_month year month → (23 < number 11 13 → wrong_field b ≡ (11, 13))
+    × (number 11 13 ≤ 23 → 59 < number 14 16 → wrong_field b ≡ (14, 16))
+    × (number 11 13 ≤ 23 → number 14 16 ≤ 59 → wrong_field b ≡ (17, 19))))
 unfolding wrong_field timestamps_on_literals
-any_day b month day = grind (arith, nat_tests)
-
-abbrev IsDay : List ℕ → Type 0
-IsDay b = IsMonth b × (1 ≤ number_between b 8 10) × (number_between b 8 10 ≤ days_in_month (number_between b 0 4) (number_between b 5 7))
-
-any_time : (b : List ℕ) → IsDay b
-    → (23 < number_between b 11 13 → wrong_field b ≡ (11, 13))
-    × (number_between b 11 13 ≤ 23 → 59 < number_between b 14 16 → wrong_field b ≡ (14, 16))
-    × (number_between b 11 13 ≤ 23 → number_between b 14 16 ≤ 59 → wrong_field b ≡ (17, 19))
-unfolding wrong_field timestamps_on_literals
-any_time b day = (grind (arith, nat_tests), grind (arith, nat_tests), grind (arith, nat_tests))
+any_field b = (
+  grind (arith, nat_tests),
+  grind (arith, nat_tests),
+  λ from to low few. (grind (arith, nat_tests), λ first last. (grind (arith, nat_tests), grind (arith, nat_tests), grind (arith, nat_tests))),
+)
 
 -- The longest timestamp has any fraction, and one zone: a `Z`, or `+00:00`, and nothing after it.
 any_fraction : (b : List ℕ) → (slice_index b 19 ≡ byte "." → fraction_end b ≡ 20 + prefix_len is_ascii_digit (drop 20 b))
-    × (slice_index b 19 ≢ byte "." → fraction_end b ≡ 19)
+    × (slice_index b 19 ≢ byte "." → fraction_end b ≡ 19) × (timestamp_len b ≡ fraction_end b + zone_len (drop (fraction_end b) b))
 unfolding fraction_end
-any_fraction b = (grind (arith, nat_tests), grind (arith, nat_tests))
+any_fraction b = (grind (arith, nat_tests), grind (arith, nat_tests), refl)
 
 any_zone : (rest : List ℕ) (c : ℕ) → (zone_len (byte "Z" ∷ rest) ≡ 1) × (zone_len (codes "+00:00" ++ rest) ≡ 6) × (zone_len [] ≡ 0)
     × (c ≢ byte "Z" → c ≢ byte "+" → zone_len (c ∷ rest) ≡ 0)
 unfolding zone_len
 any_zone rest c = (refl, refl, refl, grind (arith, nat_tests))
-
-any_end : (b : List ℕ) → timestamp_len b ≡ fraction_end b + zone_len (drop (fraction_end b) b)
-any_end b = refl
 
 -- ---- durations
 

@@ -9,7 +9,7 @@ use Rattle.humantime.specs.declared.duration.error.DurationError.{DurationError}
 use Rattle.humantime.specs.declared.duration.error.DurationError.TheVariants as errors
 use Rattle.humantime.specs.Characters.{take_while, drop_while, begins, ends, is_whitespace, is_digit, is_letter, is_point}
 use Rattle.humantime.specs.Durations.{SpelledSpan, Spells, SpellsFraction, SpellsEach, SpellsAll, Reads, Formed, WithinLimits, scale_of_word, too_long}
-use Rattle.humantime.specs.DurationErrors.{number_of, after_number, fraction_of, after_fraction, word_of, after_word, span_of, may_follow_span, Fault, InvalidCharacter, NumberExpected, UnknownUnit, NumberOverflow, Empty, Split, BeginsNumber, IsStoppedWith, OnlyWhitespace, NoNumber, TooLong, NoLetterAfterNumber, PointWithoutDigits, NoLetterAfterPoint, WordNotEnded, NoWord, UnknownWord, BreaksLimit, HasFault, fault_of, result_view, text_result_view}
+use Rattle.humantime.specs.DurationErrors.{number_of, after_number, fraction_of, after_fraction, word_of, after_word, span_of, may_follow_span, Fault, InvalidCharacter, NumberExpected, UnknownUnit, NumberOverflow, Empty, Split, BeginsNumber, IsStoppedWith, OnlyWhitespace, NoNumber, TooLong, NoLetterAfterNumber, PointWithoutDigits, NoLetterAfterPoint, WordNotEnded, NoWord, UnknownWord, BreaksLimit, HasFault, fault_of, place_of, result_view, text_result_view}
 use Rattle.humantime.specs.Items.{EndsOrStops, Items, SpanView, IsDigitSlice, IsFractionView, IsSpanView, AreSpanViews, AreItems}
 
 abbrev Only : (ℕ → Bool) → List ℕ → Type 0
@@ -81,49 +81,39 @@ module _ (text front rest : List ℕ) (spans : List SpelledSpan) where
   abbrev Row : Fault → Type 0
   Row e = IsStoppedWith text front spans rest e
 
-  only_whitespace : spans ≡ [] → rest ≡ [] → Row Empty
-  only_whitespace none end = OnlyWhitespace none end refl
-
-  no_number : rest ≢ [] → begins is_digit rest ≡ false → (spans ≡ []) ⊎ (ends is_whitespace front ≡ true)
-      → Row (NumberExpected (offset text rest))
-  no_number some other at = NoNumber some other at refl
-
-  too_large : begins is_digit rest ≡ true → too_long (span_of rest) ≡ true → Row NumberOverflow
-  too_large digit long = TooLong digit long refl
+  any_row : (spans ≡ [] → rest ≡ [] → Row Empty)
+      × (rest ≢ [] → begins is_digit rest ≡ false → (spans ≡ []) ⊎ (ends is_whitespace front ≡ true) → Row (NumberExpected (offset text rest)))
+      × (begins is_digit rest ≡ true → too_long (span_of rest) ≡ true → Row NumberOverflow)
+  any_row =
+      (λ none end. OnlyWhitespace none end refl, λ some other at. NoNumber some other at refl, λ digit long. TooLong digit long refl)
 
   number : begins is_digit rest ≡ true → too_long (span_of rest) ≡ false → BeginsNumber rest
   number digit short = record { digit = digit; short = short }
 
-  after_a_number : BeginsNumber rest → fraction_of rest ≡ None → word_of rest ≡ [] → after_word rest ≢ []
-      → Row (InvalidCharacter (offset text (after_word rest)))
-  after_a_number begun none empty other = NoLetterAfterNumber begun none empty other refl
+  after_number_or_point : BeginsNumber rest → let here = InvalidCharacter (offset text (after_word rest)) in
+      (fraction_of rest ≡ None → word_of rest ≡ [] → after_word rest ≢ [] → Row here)
+      × (fraction_of rest ≡ Some [] → (word_of rest ≢ []) ⊎ (after_word rest ≡ []) → Row (InvalidCharacter (offset text (after_number rest))))
+      × (IsSome (fraction_of rest) → word_of rest ≡ [] → after_word rest ≢ [] → Row here)
+  after_number_or_point begun = (
+    λ none empty other. NoLetterAfterNumber begun none empty other refl,
+    λ empty next. PointWithoutDigits begun empty next refl,
+    λ some empty other. NoLetterAfterPoint begun some empty other refl,
+  )
 
-  bare_point : BeginsNumber rest → fraction_of rest ≡ Some [] → (word_of rest ≢ []) ⊎ (after_word rest ≡ [])
-      → Row (InvalidCharacter (offset text (after_number rest)))
-  bare_point begun empty next = PointWithoutDigits begun empty next refl
-
-  after_a_point : BeginsNumber rest → IsSome (fraction_of rest) → word_of rest ≡ [] → after_word rest ≢ []
-      → Row (InvalidCharacter (offset text (after_word rest)))
-  after_a_point begun some empty other = NoLetterAfterPoint begun some empty other refl
-
-  after_letters : BeginsNumber rest → fraction_of rest ≢ Some [] → word_of rest ≢ [] → may_follow_span (after_word rest) ≡ false
-      → Row (InvalidCharacter (offset text (after_word rest)))
-  after_letters begun digits some other = WordNotEnded begun digits some other refl
-
-  no_word : BeginsNumber rest → fraction_of rest ≢ Some [] → word_of rest ≡ [] → after_word rest ≡ []
-      → let end = length (encode_utf8_all text) in Row (UnknownUnit end end [] (digits_value 10 (number_of rest)))
-  no_word begun digits none end = NoWord begun digits none end refl
-
-  unknown_word : BeginsNumber rest → fraction_of rest ≢ Some [] → word_of rest ≢ [] → scale_of_word (word_of rest) ≡ None
-      → may_follow_span (after_word rest) ≡ true
-      → let start = offset text (after_fraction rest) in let end = offset text (after_word rest) in
-      Row (UnknownUnit start end (encode_utf8_all (word_of rest)) (digits_value 10 (number_of rest)))
-  unknown_word begun digits some unknown ended = UnknownWord begun digits some unknown ended refl
-
-  over_a_limit : BeginsNumber rest → fraction_of rest ≢ Some [] → IsSome (scale_of_word (word_of rest))
-      → may_follow_span (after_word rest) ≡ true → ¬ (WithinLimits (spans ++ span_of rest ∷ [])) → BreaksLimit spans rest NumberOverflow
-  over_a_limit begun digits unit ended beyond =
-      record { span = record { number = begun; digits = digits; unit = unit; ended = ended }; beyond = beyond; fault = refl }
+  after_word_or_end : BeginsNumber rest → fraction_of rest ≢ Some []
+      → let end = length (encode_utf8_all text) in let value = digits_value 10 (number_of rest) in let after = offset text (after_word rest) in
+      (word_of rest ≢ [] → may_follow_span (after_word rest) ≡ false → Row (InvalidCharacter after))
+      × (word_of rest ≡ [] → after_word rest ≡ [] → Row (UnknownUnit end end [] value))
+      × (word_of rest ≢ [] → scale_of_word (word_of rest) ≡ None → may_follow_span (after_word rest) ≡ true
+      → Row (UnknownUnit (offset text (after_fraction rest)) after (encode_utf8_all (word_of rest)) value))
+      × (IsSome (scale_of_word (word_of rest)) → may_follow_span (after_word rest) ≡ true → ¬ (WithinLimits (spans ++ span_of rest ∷ []))
+      → BreaksLimit spans rest NumberOverflow)
+  after_word_or_end begun digits = (
+    λ some other. WordNotEnded begun digits some other refl,
+    λ none end. NoWord begun digits none end refl,
+    λ some unknown ended. UnknownWord begun digits some unknown ended refl,
+    λ unit ended beyond. record { span = record { number = begun; digits = digits; unit = unit; ended = ended }; beyond = beyond; fault = refl },
+  )
 
   -- Nothing else is asked of the first error, nor of the items.
   split : text ≡ front ++ rest → SpellsAll front spans → begins is_whitespace rest ≡ false → Split text front spans rest
@@ -144,14 +134,14 @@ module _ (text front rest : List ℕ) (spans : List SpelledSpan) where
 
 -- ---- errors and the views of spans
 
--- An error as data has all that the error holds, and a result as data its value or its error.
+-- An error as data has all that the error holds, and a result as data its value or its error. All but an overflow point to an offset.
 any_fault : (at start end value : ℕ) (unit : Bor (List ℕ)) (e : DurationError)
-    → (fault_of (errors.InvalidCharacter at) ≡ InvalidCharacter at) × (fault_of (errors.NumberExpected at) ≡ NumberExpected at)
-    × (fault_of (errors.UnknownUnit start end unit value) ≡ UnknownUnit start end unit.now value)
-    × (fault_of errors.NumberOverflow ≡ NumberOverflow) × (fault_of errors.Empty ≡ Empty)
+    → let faults = InvalidCharacter at ∷ NumberExpected at ∷ UnknownUnit start end unit.now value ∷ NumberOverflow ∷ Empty ∷ [] in
+    (map fault_of (errors.InvalidCharacter at ∷ errors.NumberExpected at ∷ errors.UnknownUnit start end unit value ∷ errors.NumberOverflow ∷ errors.Empty ∷ []) ≡ faults)
+    × (map place_of faults ≡ Some at ∷ Some at ∷ Some start ∷ None ∷ Some 0 ∷ [])
     × (result_view (Ok value) ≡ Ok value) × (result_view (Err e) ≡ Err (fault_of e))
     × (text_result_view (Ok unit) ≡ Ok unit.now) × (text_result_view (Err e) ≡ Err (fault_of e))
-any_fault at start end value unit e = (refl, refl, refl, refl, refl, refl, refl, refl, refl)
+any_fault at start end value unit e = (refl, refl, refl, refl, refl, refl)
 
 -- A slice goes from the first digit to the last.
 any_slice : (before slice after : List ℕ) → Only is_whitespace before → Only is_whitespace after → begins is_digit slice ≡ true

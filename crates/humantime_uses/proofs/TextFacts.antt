@@ -84,23 +84,14 @@ any_tiles text slice slices x e = (λ h. h, λ h. h, refl, refl)
 
 -- ---- messages
 
-of_durations : (at : ℕ)
-    → map fault_message (InvalidCharacter at ∷ NumberExpected at ∷ NumberOverflow ∷ Empty ∷ [])
+-- The unit is missing if it is empty, and otherwise it is repeated, whatever its length. The message has the micro sign.
+any_message : (at start end value b : ℕ) (bs : List ℕ)
+    → (map fault_message (InvalidCharacter at ∷ NumberExpected at ∷ NumberOverflow ∷ Empty ∷ UnknownUnit start end [] value ∷ UnknownUnit start end (b ∷ bs) value ∷ [])
     ≡ (codes "invalid character at " ++ decimal at) ∷ (codes "expected number at " ++ decimal at)
     ∷ codes "number is too large or cannot be represented without a lack of precision (values below 1ns are not supported)"
-    ∷ codes "value was empty" ∷ []
-of_durations at = refl
-
--- The unit is missing, or it is repeated, whatever its length. The message has the micro sign.
-of_units : (start end value b : ℕ) (bs : List ℕ)
-    → (fault_message (UnknownUnit start end [] value)
-    ≡ codes "time unit needed, for example " ++ decimal value ++ codes "sec or " ++ decimal value ++ codes "ms")
-    × (fault_message (UnknownUnit start end (b ∷ bs) value)
-    ≡ codes "unknown time unit \"" ++ (b ∷ bs)
-    ++ (codes "\", supported units: ns, us/" ++ 0xc2 ∷ 0xb5 ∷ codes "s, ms, sec, min, hours, days, weeks, months, years (and few variations)"))
-of_units start end value b bs = (refl, refl)
-
-of_timestamps :
-    map timestamp_message (OutOfRange ∷ InvalidDigit ∷ InvalidFormat ∷ [])
-    ≡ codes "numeric component is out of range" ∷ codes "bad character where digit is expected" ∷ codes "timestamp format is invalid" ∷ []
-of_timestamps = refl
+    ∷ codes "value was empty" ∷ (codes "time unit needed, for example " ++ decimal value ++ codes "sec or " ++ decimal value ++ codes "ms")
+    ∷ (codes "unknown time unit \"" ++ (b ∷ bs)
+    ++ (codes "\", supported units: ns, us/" ++ 0xc2 ∷ 0xb5 ∷ codes "s, ms, sec, min, hours, days, weeks, months, years (and few variations)")) ∷ [])
+    × (map timestamp_message (OutOfRange ∷ InvalidDigit ∷ InvalidFormat ∷ [])
+    ≡ codes "numeric component is out of range" ∷ codes "bad character where digit is expected" ∷ codes "timestamp format is invalid" ∷ [])
+any_message at start end value b bs = (refl, refl)
