@@ -1,14 +1,12 @@
-//! Callers that write values by `Display`, in lines and in columns of tables. Width and fill do not change the strings.
+//! Callers that write values by `Display`. Width, fill and precision do not change the strings.
 
-ghost use Rattle.std.specs.Prelude.{◌≡◌, ◌++◌, Err, IsOk, IfErr, IfOk, OnOk, codes, string_bytes};
+ghost use Rattle.std.specs.Prelude.{◌≡◌, ◌++◌, Err, IsOk, IfErr, IfOk, OnOk, codes};
 ghost use Rattle.std.specs.Fmt.{DisplaysOnOk, DisplaysStyledOnOk, WritesInCalls, WritesStyledOnOk, fmt_error};
 ghost use Rattle.humantime.specs.Prelude.{IsPrintable, duration_text, fault_message, fault_of, printed_text, shortest_text, timestamp_message};
 
 use humantime::{
-    Duration, DurationError, FormattedDuration, Rfc3339Timestamp, StdDuration, Timestamp,
-    TimestampError, format_duration,
+    Duration, DurationError, FormattedDuration, Rfc3339Timestamp, Timestamp, TimestampError,
 };
-use std::alloc::{AllocError, Global};
 use std::fmt::{self, Display, Write};
 
 /// Writes a line with the time that something took and its limit.
@@ -16,23 +14,6 @@ pub fn write_limit<W: Write>(took: &FormattedDuration, limit: Duration, out: &mu
     ensures { OnOk result (WritesInCalls W.write_str_gives out.old (duration_text took.now ++ (codes " of " ++ duration_text limit)) out.new) }
 {
     write!(out, "{took} of {limit}")
-}
-
-/// The string of a row of a table, unless there is no memory for it.
-pub type Row = Result<String, AllocError>;
-
-/// Returns a row of a table: the time that something took, and its limit.
-pub fn limits_row(alloc: Global, took: StdDuration, limit: Duration) -> Row
-    ensures { IfOk result (λ row. string_bytes row ≡ duration_text took ++ (codes " of " ++ duration_text limit)) }
-{
-    format!(in alloc; "{:>80} of {limit:-<9}", format_duration(took))
-}
-
-/// Returns a row of a table: the errors of a limit and of a start.
-pub fn errors_row(alloc: Global, limit: &DurationError<'_>, start: &TimestampError) -> Row
-    ensures { IfOk result (λ row. string_bytes row ≡ fault_message (fault_of limit.now) ++ (codes ", " ++ timestamp_message start.now)) }
-{
-    format!(in alloc; "{limit:>80}, {start:^3}")
 }
 
 /// Writes a limit or its error, in whatever format: `f` may have any width, fill and precision.

@@ -1,17 +1,9 @@
 //! Limits, times and offsets of errors: callers that parse and print durations.
 
-ghost use Rattle.std.specs.Prelude.{◌≡◌, ◌+◌, ◌*◌, ◌/◌, ◌<◌, ◌≤◌, ◌↔◌, ℕ, List, chars, true, IfSome, IfOk, IsSome, IsTrue, Ok};
-ghost use Rattle.std.specs.Result.{result_map_both};
-ghost use Rattle.humantime.specs.Prelude.{Accepted, IsCanonicalOf, IsCanonicalText, PointsInto, duration_answer, duration_end, result_view, text_result_view, fault_of, nanos_per_second};
+ghost use Rattle.std.specs.Prelude.{◌≡◌, ◌+◌, ◌*◌, ◌<◌, ◌≤◌, ◌↔◌, ℕ, List, chars, true, IfSome, IfOk, IsSome, IsTrue, Ok};
+ghost use Rattle.humantime.specs.Prelude.{Accepted, IsCanonicalOf, IsCanonicalText, PointsInto, duration_end, text_result_view, fault_of, nanos_per_second};
 
 use humantime::{Duration, DurationError, StdDuration, canonical, format_duration, parse_duration};
-
-/// Returns the whole seconds of a time limit in a settings file, or the error of its string.
-pub fn limit_seconds(text: &str) -> Result<u64, DurationError<'_>>
-    ensures { result_view result ≡ result_map_both (λ v. v / nanos_per_second) (λ e. e) (duration_answer (chars text.now)) }
-{
-    Ok(parse_duration(text)?.as_secs())
-}
 
 /// Parses a time limit, and rounds it up to whole seconds.
 pub fn whole_limit(text: &str) -> Result<u64, DurationError<'_>>

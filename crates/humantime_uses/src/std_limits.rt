@@ -1,8 +1,8 @@
 //! Callers of `humantime_std`, whose results are known up to the limits of the types.
 
-ghost use Rattle.std.specs.Prelude.{◌≡◌, ◌≢◌, ◌+◌, ◌*◌, ◌/◌, ◌%◌, ◌<◌, ◌≤◌, ◌⊎◌, ◌↔◌, ◌+ℤ◌, ◌≤ℤ◌, ℕ, ℤ, List, chars, pos, slice_range, option_map, Err, IfSome, IsNone, IsOk, IsTrue, None, Some, SomeIff};
+ghost use Rattle.std.specs.Prelude.{◌≡◌, ◌≢◌, ◌+◌, ◌*◌, ◌/◌, ◌%◌, ◌<◌, ◌≤◌, ◌⊎◌, ◌↔◌, ◌+ℤ◌, ◌≤ℤ◌, ℤ, chars, pos, slice_range, option_map, Err, IfSome, IsNone, IsOk, IsTrue, Some, SomeIff};
 ghost use Rattle.std.specs.Time.{FitsClock, instant_nanos};
-ghost use Rattle.humantime.specs.Prelude.{Fault, InvalidCharacter, NumberExpected, UnknownUnit, NumberOverflow, Empty, duration_answer, fault_of, moment_end};
+ghost use Rattle.humantime.specs.Prelude.{Fault, duration_answer, fault_of, moment_end, place_of};
 ghost use Rattle.humantime_std.specs.Located.{IsFaultRange, IsRangeIn, weak_error};
 ghost use Rattle.humantime_std.specs.Schedule.{IsDue, IsNextRun};
 
@@ -98,11 +98,7 @@ pub fn wrong_part(text: &str) -> Option<&str>
 
 /// Returns the offset of an error, if it has one.
 pub fn offset_of_error(error: &DurationError<'_>) -> Option<usize>
-    ensures character { (at : ℕ) → fault_of error.now ≡ InvalidCharacter at → result ≡ Some at }
-    ensures number { (at : ℕ) → fault_of error.now ≡ NumberExpected at → result ≡ Some at }
-    ensures unit { (at : ℕ) (end : ℕ) (unit : List ℕ) (value : ℕ) → fault_of error.now ≡ UnknownUnit at end unit value → result ≡ Some at }
-    ensures overflow { fault_of error.now ≡ NumberOverflow → result ≡ None }
-    ensures empty { fault_of error.now ≡ Empty → result ≡ Some 0 }
+    ensures { result ≡ place_of (fault_of error.now) }
 {
     error_offset(error)
 }

@@ -8,19 +8,12 @@ use humantime::{
     parse_duration, parse_rfc3339_weak,
 };
 
-/// Returns a limit of seconds and nanoseconds, as in a protocol, or `None` if it is too long.
-pub fn limit_of_parts(secs: u64, nanos: u32) -> Option<Duration>
-    ensures { SomeIff result (secs + nanos / nanos_per_second < 2 ^ 64) (secs * nanos_per_second + nanos) }
+/// Returns the limit and the duration of any seconds and nanoseconds, which are carried, or `None` if they are too long.
+pub fn carried(secs: u64, nanos: u32) -> Option<(Duration, StdDuration)>
+    ensures { SomeIff result (secs + nanos / nanos_per_second < 2 ^ 64) (secs * nanos_per_second + nanos, secs * nanos_per_second + nanos) }
 {
-    Some(Duration::from(StdDuration::checked_new(secs, nanos)?))
-}
-
-/// Returns the duration of any seconds and nanoseconds, which are carried, or `None` if it is too long.
-pub fn carried(secs: u64, nanos: u32) -> Option<StdDuration>
-    ensures { SomeIff result (secs + nanos / nanos_per_second < 2 ^ 64) (secs * nanos_per_second + nanos) }
-{
-    StdDuration::checked_new(secs, nanos)?;
-    Some(StdDuration::new(secs, nanos))
+    let limit = StdDuration::checked_new(secs, nanos)?;
+    Some((Duration::from(limit), StdDuration::new(secs, nanos)))
 }
 
 /// Returns a timestamp of seconds and nanoseconds after 1970-01-01, or `None` if the nanoseconds are a second or more.

@@ -28,39 +28,25 @@ pub fn constants() -> (StdDuration, StdDuration, SystemTime, StdDuration, Durati
     )
 }
 
+/// A value of each type that has an order and can be hashed.
+pub type Times = (StdDuration, SystemTime, Duration, Timestamp);
+
 /// The results of `==`, `<`, `cmp` and `partial_cmp` for two values, in this order.
 pub type Compared = (bool, bool, Ordering, Option<Ordering>);
 
-pub fn compared_std_duration(a: &StdDuration, b: &StdDuration) -> Compared
-    ensures same { IsTrue result.0 ↔ (a.now ≡ b.now) }
-    ensures less { IsTrue result.1 ↔ (a.now < b.now) }
-    ensures order { (result.2 ≡ nat_cmp a.now b.now) × (result.3 ≡ Some (nat_cmp a.now b.now)) }
+/// Compares the values of each type.
+pub fn compared(a: &Times, b: &Times) -> (Compared, Compared, Compared, Compared)
+    ensures std_duration { (IsTrue result.0.0 ↔ (a.now.0 ≡ b.now.0)) × (IsTrue result.0.1 ↔ (a.now.0 < b.now.0)) × (result.0.2 ≡ nat_cmp a.now.0 b.now.0) × (result.0.3 ≡ Some (nat_cmp a.now.0 b.now.0)) }
+    ensures system_time { (IsTrue result.1.0 ↔ (a.now.1 ≡ b.now.1)) × (IsTrue result.1.1 ↔ (a.now.1 <ℤ b.now.1)) × (result.1.2 ≡ int_cmp a.now.1 b.now.1) × (result.1.3 ≡ Some (int_cmp a.now.1 b.now.1)) }
+    ensures duration { (IsTrue result.2.0 ↔ (a.now.2 ≡ b.now.2)) × (IsTrue result.2.1 ↔ (a.now.2 < b.now.2)) × (result.2.2 ≡ nat_cmp a.now.2 b.now.2) × (result.2.3 ≡ Some (nat_cmp a.now.2 b.now.2)) }
+    ensures timestamp { (IsTrue result.3.0 ↔ (a.now.3 ≡ b.now.3)) × (IsTrue result.3.1 ↔ (a.now.3 <ℤ b.now.3)) × (result.3.2 ≡ int_cmp a.now.3 b.now.3) × (result.3.3 ≡ Some (int_cmp a.now.3 b.now.3)) }
 {
-    (*a == *b, *a < *b, a.cmp(b), a.partial_cmp(b))
-}
-
-pub fn compared_system_time(a: &SystemTime, b: &SystemTime) -> Compared
-    ensures same { IsTrue result.0 ↔ (a.now ≡ b.now) }
-    ensures less { IsTrue result.1 ↔ (a.now <ℤ b.now) }
-    ensures order { (result.2 ≡ int_cmp a.now b.now) × (result.3 ≡ Some (int_cmp a.now b.now)) }
-{
-    (*a == *b, *a < *b, a.cmp(b), a.partial_cmp(b))
-}
-
-pub fn compared_duration(a: &Duration, b: &Duration) -> Compared
-    ensures same { IsTrue result.0 ↔ (a.now ≡ b.now) }
-    ensures less { IsTrue result.1 ↔ (a.now < b.now) }
-    ensures order { (result.2 ≡ nat_cmp a.now b.now) × (result.3 ≡ Some (nat_cmp a.now b.now)) }
-{
-    (*a == *b, *a < *b, a.cmp(b), a.partial_cmp(b))
-}
-
-pub fn compared_timestamp(a: &Timestamp, b: &Timestamp) -> Compared
-    ensures same { IsTrue result.0 ↔ (a.now ≡ b.now) }
-    ensures less { IsTrue result.1 ↔ (a.now <ℤ b.now) }
-    ensures order { (result.2 ≡ int_cmp a.now b.now) × (result.3 ≡ Some (int_cmp a.now b.now)) }
-{
-    (*a == *b, *a < *b, a.cmp(b), a.partial_cmp(b))
+    (
+        (a.0 == b.0, a.0 < b.0, a.0.cmp(&b.0), a.0.partial_cmp(&b.0)),
+        (a.1 == b.1, a.1 < b.1, a.1.cmp(&b.1), a.1.partial_cmp(&b.1)),
+        (a.2 == b.2, a.2 < b.2, a.2.cmp(&b.2), a.2.partial_cmp(&b.2)),
+        (a.3 == b.3, a.3 < b.3, a.3.cmp(&b.3), a.3.partial_cmp(&b.3)),
+    )
 }
 
 /// A value of each other type whose `==` says that its fields are equal.
@@ -71,9 +57,6 @@ pub fn is_same_other(a: &Others, b: &Others) -> bool
 {
     *a == *b
 }
-
-/// A value of each type that can be hashed.
-pub type Times = (StdDuration, SystemTime, Duration, Timestamp);
 
 /// Feeds equal durations and times to two hashers, which keeps their states equal.
 pub fn times_feed_alike<H: Hasher>(a: &Times, b: &Times, first: &mut H, second: &mut H)
