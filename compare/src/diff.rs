@@ -93,15 +93,6 @@ fn timestamps(counts: &mut Counts, part: &str, texts: impl FnOnce(&mut dyn FnMut
     texts(&mut |text| read_moment(counts, text));
 }
 
-/// Compares the texts of the crate's sources and tests, their prefixes, and each with one character removed, replaced or inserted.
-fn texts_of_the_crate(counts: &mut Counts, folder: &Path) {
-    let found = texts_of_crate(folder);
-    durations(counts, "the texts of the crate's sources and tests, and those near them", |to| {
-        found.iter().for_each(|text| variants(text, &HOSTILE, to));
-    });
-    timestamps(counts, "the same texts, and those near them", |to| found.iter().for_each(|text| variants(text, &STAMP, to)));
-}
-
 fn durations_parsed(counts: &mut Counts) {
     let letters: Vec<char> = ('a'..='z').chain('A'..='Z').chain(['µ', 'μ']).collect();
     durations(counts, "all texts of up to 5 of 18 characters", |to| all_texts("", &HOSTILE, 5, to));
@@ -128,11 +119,9 @@ fn durations_printed(counts: &mut Counts) {
     let nanos = [0, 1, 999, 1_000, 1_001, 999_999, 1_000_000, 1_000_001, 999_999_999];
     counts.begin("durations printed: around multiples of each unit; their texts parsed");
     for size in [1, 60, 3_600, DAY, 604_800, 2_630_016, 31_557_600, 31_557_600_000_000, u64::MAX / 31] {
-        for times in 0..2_000u64 {
-            for near in [0, 1, 2] {
-                let secs = size.saturating_mul(times).saturating_add(near).saturating_sub(1);
-                print_duration(counts, secs, nanos[(times % 9) as usize]);
-            }
+        for (times, near) in (0..2_000u64).flat_map(|times| [0, 1, 2].map(|near| (times, near))) {
+            let secs = size.saturating_mul(times).saturating_add(near).saturating_sub(1);
+            print_duration(counts, secs, nanos[(times % 9) as usize]);
         }
     }
     counts.begin("durations printed: each second of a day and slightly more; their texts parsed");
@@ -201,8 +190,11 @@ fn timestamps_printed(counts: &mut Counts) {
 fn main() -> ExitCode {
     let folder = std::env::args().nth(1).expect("the crate's folder");
     std::panic::set_hook(Box::new(|_| {}));
-    let mut counts = Counts::default();
-    texts_of_the_crate(&mut counts, Path::new(&folder));
+    let (mut counts, found) = (Counts::default(), texts_of_crate(Path::new(&folder)));
+    durations(&mut counts, "the texts of the crate's sources and tests, and those near them", |to| {
+        found.iter().for_each(|text| variants(text, &HOSTILE, to));
+    });
+    timestamps(&mut counts, "the same texts, and those near them", |to| found.iter().for_each(|text| variants(text, &STAMP, to)));
     durations_parsed(&mut counts);
     durations_printed(&mut counts);
     timestamps_parsed(&mut counts);
