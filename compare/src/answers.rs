@@ -111,10 +111,8 @@ impl<T, E> Parser<T, E> {
     }
 }
 
-/// A printer of moments: its number in `exports.rt.txt`, its name, and the crate's function.
-pub type Printer = (u32, &'static str, fn(SystemTime) -> Rfc3339Timestamp);
-
-pub const PRINTERS: [Printer; 5] = [
+/// The printers of moments: the number of each in `exports.rt.txt`, its name, and the crate's function.
+pub const PRINTERS: [(u32, &str, fn(SystemTime) -> Rfc3339Timestamp); 5] = [
     (0, "format_rfc3339", format_rfc3339),
     (1, "format_rfc3339_seconds", format_rfc3339_seconds),
     (2, "format_rfc3339_millis", format_rfc3339_millis),
