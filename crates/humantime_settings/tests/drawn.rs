@@ -1,9 +1,10 @@
 //! Drawn documents with at most one error each: it is found where it was put.
 
+use crate::support::{message_at, reads};
 use humantime::{StdDuration, SystemTime};
-use humantime_settings::{AsText, SettingsError, from_json, from_toml};
+use humantime_settings::AsText;
 use serde::Deserialize;
-use std::alloc::{AllocError, Global};
+use std::alloc::AllocError;
 use std::collections::BTreeMap;
 use std::process::Abort;
 use std::test::Fail;
@@ -13,36 +14,21 @@ type Wait = AsText<StdDuration>;
 /// The document, or a table in it.
 #[derive(Debug, Drop, Deserialize)]
 #[serde(recursive)]
-struct Table {
-    wait: Option<Wait>,
-    since: Option<AsText<SystemTime>>,
-    list: Option<Vec<Wait>>,
-    grid: Option<Vec<Vec<Wait>>>,
-    named: Option<BTreeMap<String, Wait>>,
-    #[serde(rename = "a.b")]
-    dotted: Option<Wait>,
-    a: Option<BTreeMap<String, Wait>>,
-    job: Option<Job>,
-    tasks: Option<Vec<Task>>,
-    #[serde(recursive)]
-    one: Option<Box<Table>>,
-    #[serde(default, recursive)]
-    many: Vec<Table>,
+pub(crate) struct Table {
+    wait: Option<Wait>, since: Option<AsText<SystemTime>>, list: Option<Vec<Wait>>, grid: Option<Vec<Vec<Wait>>>,
+    named: Option<BTreeMap<String, Wait>>, a: Option<BTreeMap<String, Wait>>, job: Option<Job>, tasks: Option<Vec<Task>>,
+    #[serde(rename = "a.b")] dotted: Option<Wait>,
+    #[serde(recursive)] one: Option<Box<Table>>,
+    #[serde(default, recursive)] many: Vec<Table>,
 }
 
 #[derive(Debug, Drop, Deserialize)]
 #[serde(deny_unknown_fields, rename_all = "kebab-case")]
-struct Job {
-    max_age: Wait,
-    count: u8,
-}
+struct Job { max_age: Wait, count: u8 }
 
 #[derive(Debug, Drop, Deserialize)]
 #[serde(tag = "kind")]
-enum Task {
-    Every { wait: Wait },
-    Never,
-}
+enum Task { Every { wait: Wait }, Never }
 
 /// What is wrong in a document: the name of a part, and that of a wrong one in its place.
 const KINDS: [(&str, &str); 10] = [
@@ -55,9 +41,7 @@ const KINDS: [(&str, &str); 10] = [
 type Parts = &'static [(&'static str, &'static [&'static str])];
 
 const BOTH: Parts = &[
-    ("wait", &["<'wait><=><value>"]),
-    ("since", &["<'since><=><time>"]),
-    ("list", &["<'list><=><values>"]),
+    ("wait", &["<'wait><=><value>"]), ("since", &["<'since><=><time>"]), ("list", &["<'list><=><values>"]),
     ("values", &["[<_>]", "[<_><value><]>", "[<_><value><,><value><]>", "[<_><value><,><value><,><value><]>"]),
     ("grid", &["<'grid><=>[<_>]", "<'grid><=>[<_><values><]>", "<'grid><=>[<_><values><,><values><]>"]),
     ("named", &["<'named><=>{<_><'x><=><value><,><name><=><value><_>}"]),
@@ -66,25 +50,19 @@ const BOTH: Parts = &[
         "<tasks><,><job><,><wait>",
     ]),
     ("job", &["<'job><=>{<_><fields><_>}"]),
-    ("fields", &["<'count><=><number><,><'max-age><=><value>", "<'max-age><=><value><,><'count><=><number>"]),
-    ("number", &["7", "0", "255"]),
+    ("fields", &["<'count><=><number><,><'max-age><=><value>", "<'max-age><=><value><,><'count><=><number>"]), ("number", &["7", "0", "255"]),
     ("tasks", &["<'tasks><=>[<_><task><]>", "<'tasks><=>[<_><task><,><task><]>"]),
-    ("task", &["{<_><'kind><=><tag><,><'wait><=><value><_>}", "{<_><'wait><=><value><,><'kind><=><tag><_>}"]),
-    ("tag", &["<\"Every>"]),
+    ("task", &["{<_><'kind><=><tag><,><'wait><=><value><_>}", "{<_><'wait><=><value><,><'kind><=><tag><_>}"]), ("tag", &["<\"Every>"]),
     ("one", &["<'one><=>{<_><pairs><_>}"]),
     ("many", &["<'many><=>[<_>]", "<'many><=>[<_>{<_><pairs><_>}<]>", "<'many><=>[<_>{<_><pairs><_>}<,>{<_><pairs><_>}<]>"]),
-    ("value", &["<\"1s>", "<\"2h 5m>", "<\"1\ts>", "<\"\u{3000}1h\n2s >"]),
-    ("time", &["<\"2018-02-14 00:28:07>", "<\"2018-02-14T00:28:07.5Z>"]),
+    ("value", &["<\"1s>", "<\"2h 5m>", "<\"1\ts>", "<\"\u{3000}1h\n2s >"]), ("time", &["<\"2018-02-14 00:28:07>", "<\"2018-02-14T00:28:07.5Z>"]),
     // An error begins and ends at `^`. One that ends where it begins has only one.
-    ("wrong number", &["^256", "^-1", "^1.5", "^true", "^<\"7>", "^[<_>7<_>]"]),
-    ("wrong tag", &["^<\"every>", "^<\"Never2>", "^7", "^[]"]),
+    ("wrong number", &["^256", "^-1", "^1.5", "^true", "^<\"7>", "^[<_>7<_>]"]), ("wrong tag", &["^<\"every>", "^<\"Never2>", "^7", "^[]"]),
     ("wrong fields", &[
         "<'max-age><=><value><,>^\"wiat\"<=>7<,><'count><=><number>", "<'count><=><number><,>^\"max_age\"<=><value><,><'max-age><=><value>",
         "<'count><=><number><,><'max-age><=><value><,>^\"count\"<=><number>", "<'max-age><=><value><,>^\"max-age\"<=><value>",
     ]),
-    ("wrong ,", &["<blank>^"]),
-    ("blank", &[" ", "\n", "\t "]),
-    ("wrong value", &["<wrong text>", "<wrong text>", "<wrong text>", "<no text>"]),
+    ("wrong ,", &["<blank>^"]), ("blank", &[" ", "\n", "\t "]), ("wrong value", &["<wrong text>", "<wrong text>", "<wrong text>", "<no text>"]),
     ("wrong text", &[
         "<\"^>", "<\"^~^>", "<\"5µs ^~^>", "<\"1s 2^>", "<\"1^x^ 2s>", "<\" 2h 5^~^>", "<\"\u{3000}2h\t5^~^>", "<\"1h ^#^[ >", "<\"1s ^\\^>",
         "<\"1s ^\"^>", "<\"1h\n2s ^é^𝄞>", "<\"1d\u{3000}2h ^𝄞^1h>", "<\"5^parsecs^ 1h>", "<\"9^µx^>", "<\"5µs ^\u{1b}^>", "<\"5^\u{10ffff}^>",
@@ -99,19 +77,14 @@ const BOTH: Parts = &[
 
 const JSON: Parts = &[
     ("document", &["<_>{<_><'wait><=><value><,><since><_>}<_>", "<_>{<_><pairs><,><'a.b><=><value><,><rest>}<_>"]),
-    ("rest", &["<a>", "<one><,><a>", "<a><,><many>", "<many><,><a><,><one>"]),
-    ("a", &["<'a><=>{<_><'b><=><value><_>}<_>"]),
+    ("rest", &["<a>", "<one><,><a>", "<a><,><many>", "<many><,><a><,><one>"]), ("a", &["<'a><=>{<_><'b><=><value><_>}<_>"]),
     // Keys that are unknown, with their values, also as the last of a table.
     ("skip", &[r#""skip":[{"wait":"1~"}, "]\"", 1.5e3, null]"#, r#""\"wait\"" : "\\""#, r#""skip":{ }"#]),
     ("last", &[r#""last"<=>0"#, r#""last"<=>{}"#]),
     // Keys with escapes, and with what they do not end at.
-    ("name", &[r#""\"""#, r#""z\ty""#, r#""\u007a\\""#, r#""}""#]),
-    ("no text", &["^7", "^-2.5e3", "^true", "^[<_><\"1s><_>]", "^[]", "^{}"]),
+    ("name", &[r#""\"""#, r#""z\ty""#, r#""\u007a\\""#, r#""}""#]), ("no text", &["^7", "^-2.5e3", "^true", "^[<_><\"1s><_>]", "^[]", "^{}"]),
     ("wrong job", &["<'job><=>{<_><'count><=>7<_>^}", "<'job><=>{<_><'max-age><=><value><_>^}", "<'job><=>{<_>^}", "<'job><=>^7"]),
-    ("_", &["", " ", "\n", "\r\n\t"]),
-    ("=", &["<_>:<_>"]),
-    ("wrong =", &["<_>^=<_>", "<blank>^", "<_>:<_>^:", "<_>:<_>^,"]),
-    (",", &["<_>,<_>"]),
+    ("_", &["", " ", "\n", "\r\n\t"]), ("=", &["<_>:<_>"]), ("wrong =", &["<_>^=<_>", "<blank>^", "<_>:<_>^:", "<_>:<_>^,"]), (",", &["<_>,<_>"]),
     ("]", &["<_>]"]),
 ];
 
@@ -129,19 +102,14 @@ const TOML: Parts = &[
     ]),
     ("named", &["<'named><=>{<_><'x><=><value><,><name><=><value><_>}", "named.<'x><=><value>", "\"named\" . <'y z><=><value>"]),
     ("skip", &["skip = [1, ']', { wait = '1~', b = [ 2, \"[\" ] }, 1979-05-27]", "skip.wait = '1~'", "skip = \"\"\"\nwait = '1~'\n\"\"\""]),
-    ("last", &["last = 0", "last = {}"]),
-    ("name", &["y", "'y.z'", "\"\\u0061\\t\"", "\"]\""]),
+    ("last", &["last = 0", "last = {}"]), ("name", &["y", "'y.z'", "\"\\u0061\\t\"", "\"]\""]),
     ("no text", &[
         "^7", "^0x1F", "^-2.5e3", "^inf", "^true", "^1979-05-27 07:32:00Z", "^07:32:00", "^[<_><\"1s><_>]", "^[]", "^{}", "^{ a = <\"1s> }",
     ]),
     ("_", &["", " ", "\n", " # ]\n\t"]),
     ("wrong job", &["<'job><=>^{<_><'count><=>7<_>}", "<'job><=>^{<_><'max-age><=><value><_>}", "<'job><=>^{<_>}", "<'job><=>^7"]),
-    ("=", &["=", " = ", "\t= "]),
-    ("wrong =", &["<tab>^: ", "^~", "<is>^=", "<is>^, "]),
-    ("tab", &[" ", "\t"]),
-    ("is", &["=", " = "]),
-    (",", &[",", " , ", ", # '~' ]\n", ",\r\n\t"]),
-    ("]", &["]", " ,\n]", "<_>]"]),
+    ("=", &["=", " = ", "\t= "]), ("wrong =", &["<tab>^: ", "^~", "<is>^=", "<is>^, "]), ("tab", &[" ", "\t"]), ("is", &["=", " = "]),
+    (",", &[",", " , ", ", # '~' ]\n", ",\r\n\t"]), ("]", &["]", " ,\n]", "<_>]"]),
     // What follows a value outside brackets.
     ("end", &["\n", "\r\n", " # ' [ { \" = '1~'\n", "\t#]\r\n", "\n\n# [wait]\n", "\n  "]),
 ];
@@ -171,12 +139,11 @@ const WAYS: [Parts; 3] = [
 struct Draw {
     state: u64,
     is_json: bool,
+    /// An error begins and ends at `^`.
     text: String,
     /// The part that is wrong, and its number among those that are still to be put, from 1. None has the number 0.
     kind: (&'static str, &'static str),
     wrong: usize,
-    /// Where the error begins, and where it ends.
-    marks: Vec<usize>,
 }
 
 impl Draw {
@@ -194,10 +161,7 @@ impl Draw {
         left.push(self.text_of(name))?;
         while let Some(text) = left.pop() {
             let (before, named) = text.split_once('<').unwrap_or((text, ""));
-            if before.starts_with('^') {
-                self.marks.push(self.text.len())?;
-            }
-            self.text.push_str(before.trim_start_matches('^'))?;
+            self.text.push_str(before)?;
             let Some((name, after)) = named.split_once('>') else {
                 continue;
             };
@@ -235,7 +199,7 @@ impl Draw {
             0 => format!(in alloc; "\"{key}\"")?,
             1 => format!(in alloc; "\"\\u{:04x}{}\"", key.as_bytes()[0], &key[1..])?,
             2 if is_bare => format!(in alloc; "{key}")?,
-            3 if is_bare && self.marks.last() != Some(&self.text.len()) => format!(in alloc; "\t{key} ")?,
+            3 if is_bare && !self.text.ends_with('^') => format!(in alloc; "\t{key} ")?,
             _ => format!(in alloc; "'{key}'")?,
         };
         self.text.push_str(&key)
@@ -253,7 +217,6 @@ impl Draw {
             }
             let is_plain = is_literal || c == '\n' && is_long && self.below(2) == 0;
             match c {
-                '^' => self.marks.push(self.text.len())?,
                 '\n' if is_plain && !is_long => self.text.push(' ')?,
                 '\u{1b}' if is_plain => self.text.push('?')?,
                 _ if is_plain => self.text.push(c)?,
@@ -269,7 +232,7 @@ impl Draw {
 
     /// Puts a backslash at the end of a line, or nothing. White space behind it would be no text, and a mark begins behind it.
     fn put_blank(&mut self, c: char) -> Result<(), AllocError> {
-        let is_marked = self.marks.last() == Some(&self.text.len()) || c == '^' && !self.marks.is_empty();
+        let is_marked = self.text.ends_with('^') || c == '^' && self.text.contains('^');
         if is_marked || matches!(c, ' ' | '\t' | '\n') || self.below(6) > 0 {
             return Ok(());
         }
@@ -284,23 +247,18 @@ fn assert_found(rt: &(impl Abort + AllocGlobal), is_json: bool, count: usize) ->
     let (alloc, mut wrong, mut seed) = (rt.alloc(), 0, 0_u64);
     while wrong < count {
         seed += 1;
-        let mut draw = Draw { state: seed * 0x9E37_79B9, is_json, text: String::new(alloc), kind: ("", ""), wrong: 0, marks: Vec::new(alloc) };
+        let mut draw = Draw { state: seed * 0x9E37_79B9, is_json, text: String::new(alloc), kind: ("", ""), wrong: 0 };
         draw.kind = KINDS[draw.below(KINDS.len())];
         draw.wrong = draw.below(4);
         draw.put("document")?;
-        let text = draw.text.as_str();
-        let error = if is_json { from_json::<Table>(alloc, text).err() } else { from_toml::<Table>(alloc, text).err() };
-        let (Some(start), Some(end)) = (draw.marks.first(), draw.marks.last()) else {
+        let (read, text) = (reads!(Table)[is_json as usize], draw.text.as_str());
+        if text.contains('^') {
+            wrong += 1;
+            message_at(rt, read, text)?;
+        } else {
+            let error = read(alloc, text);
             assert!(rt; error.is_none(), "{error:?} {text}");
-            continue;
-        };
-        wrong += 1;
-        let Some(SettingsError::At(error)) = error else {
-            panic!(rt; "{error:?} {text}");
-        };
-        // The part that is marked ends with its line.
-        let marked = text[*start..*end].lines().next().unwrap_or("");
-        assert_eq!(rt; (error.offset, error.part.as_str()), (*start, marked), "{} {text}", draw.kind.1);
+        }
     }
     Ok(())
 }

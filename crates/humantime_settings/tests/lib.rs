@@ -7,5 +7,4 @@ mod drawn;
 mod marks;
 mod refused;
 pub(crate) mod support;
-mod toml_keys;
 mod values;

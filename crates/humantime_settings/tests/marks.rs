@@ -1,33 +1,9 @@
 //! Wrong strings, in each way to write one, in each place of some documents: what is marked is what is wrong.
 
-use crate::support::Read;
-use humantime::{StdDuration, SystemTime};
-use humantime_settings::{AsText, SettingsError, from_json, from_toml};
-use serde::Deserialize;
-use std::alloc::AllocError;
-use std::collections::BTreeMap;
+use crate::drawn::Table;
+use crate::support::{Read, filled, message_at, reads};
 use std::process::Abort;
 use std::test::Fail;
-
-type Wait = AsText<StdDuration>;
-
-/// The document, or a table in it.
-#[derive(Debug, Drop, Deserialize)]
-#[serde(recursive)]
-pub(crate) struct Table {
-    wait: Option<Wait>,
-    since: Option<AsText<SystemTime>>,
-    list: Option<Vec<Wait>>,
-    grid: Option<Vec<Vec<Wait>>>,
-    named: Option<BTreeMap<String, Wait>>,
-    #[serde(rename = "a.b")]
-    dotted: Option<Wait>,
-    a: Option<BTreeMap<String, Wait>>,
-    #[serde(recursive)]
-    one: Option<Box<Table>>,
-    #[serde(default, recursive)]
-    many: Vec<Table>,
-}
 
 /// Documents, in which each `@` is a duration and each `%` a timestamp. Some keys are unknown, or have escapes and what they do not end at.
 const JSON: &[&str] = &[
@@ -102,20 +78,19 @@ const WRONG: [[&[Strings]; 2]; 2] = [
     ],
 ];
 
-/// Returns a document with its right values.
-fn filled(rt: &impl AllocGlobal, document: &str) -> Result<String, AllocError> {
-    document.replace(rt.alloc(), "@", "\"1s\"")?.replace(rt.alloc(), "%", "\"2018-02-14 00:28:07\"")
-}
+/// What the places have in a right document.
+const RIGHT: &[(&str, &str)] = &[("@", "\"1s\""), ("%", "\"2018-02-14 00:28:07\"")];
 
 /// Asserts that each document is right, and that each wrong value is marked in each of its places.
 fn assert_marked(rt: &(impl Abort + AllocGlobal), read: Read, documents: &[&str], wrong: [&[Strings]; 2]) -> Result<(), Fail> {
     for document in documents {
-        assert!(rt; read(rt.alloc(), &filled(rt, document)?).is_none(), "{document}");
+        assert!(rt; read(rt.alloc(), &filled(rt, document, RIGHT)?).is_none(), "{document}");
         for (at, place) in document.match_indices(['@', '%']) {
-            let (before, after) = (filled(rt, &document[..at])?, filled(rt, &document[at + 1..])?);
+            let (before, after) = (filled(rt, &document[..at], RIGHT)?, filled(rt, &document[at + 1..], RIGHT)?);
             for (opens, contents) in wrong[(place == "%") as usize] {
                 for (number, content) in contents.iter().enumerate() {
-                    assert_mark(rt, read, &before, opens[(at + number) % opens.len()], content, &after)?;
+                    let open = opens[(at + number) % opens.len()];
+                    message_at(rt, read, &format!(in rt.alloc(); "{before}{open}{content}{}{after}", open.trim_end())?)?;
                 }
             }
         }
@@ -123,29 +98,12 @@ fn assert_marked(rt: &(impl Abort + AllocGlobal), read: Read, documents: &[&str]
     Ok(())
 }
 
-/// Asserts that the content of a string is marked.
-fn assert_mark(rt: &(impl Abort + AllocGlobal), read: Read, before: &str, open: &str, content: &str, after: &str) -> Result<(), Fail> {
-    let (front, rest) = content.split_once('^').unwrap_or((content, ""));
-    let (marked, back) = rest.split_once('^').unwrap_or(("", rest));
-    let before = format!(in rt.alloc(); "{before}{open}{front}")?;
-    let text = format!(in rt.alloc(); "{before}{marked}{back}{}{after}", open.trim_end())?;
-    let read_as = read(rt.alloc(), &text);
-    let Some(SettingsError::At(error)) = &read_as else {
-        panic!(rt; "{read_as:?} {text}");
-    };
-    let (line, column) = (before.matches('\n').count() + 1, before.rsplit('\n').next().unwrap_or("").chars().count() + 1);
-    // A mark ends with its line.
-    let marked = marked.lines().next().unwrap_or("");
-    assert_eq!(rt; (error.offset, error.line, error.column(), error.part.as_str()), (before.len(), line, column, marked), "{text}");
-    Ok(())
-}
-
 #[test]
 fn wrong_values_in_json(rt: HostRuntime) -> Result<(), Fail> {
-    assert_marked(&rt, |alloc, text| from_json::<Table>(alloc, text).err(), JSON, WRONG[0])
+    assert_marked(&rt, reads!(Table)[1], JSON, WRONG[0])
 }
 
 #[test]
 fn wrong_values_in_toml(rt: HostRuntime) -> Result<(), Fail> {
-    assert_marked(&rt, |alloc, text| from_toml::<Table>(alloc, text).err(), TOML, WRONG[1])
+    assert_marked(&rt, reads!(Table)[0], TOML, WRONG[1])
 }

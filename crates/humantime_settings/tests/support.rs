@@ -1,50 +1,64 @@
 //! Documents with their errors.
 
 use humantime_settings::SettingsError;
-use std::alloc::Global;
+use std::alloc::{AllocError, Global};
 use std::process::Abort;
 use std::test::Fail;
 
 /// Reads a document, and returns its error.
 pub(crate) type Read = fn(Global, &str) -> Option<SettingsError>;
 
-/// A document, and the line, the column, the part of the line that is marked, and the message of its error.
-pub(crate) type Case<'a> = (&'a str, usize, usize, &'a str, &'a str);
+/// Returns the functions that read a document as a type, in TOML and in JSON.
+macro_rules! reads {
+    ($type:ty) => {{
+        let toml: crate::support::Read = |alloc, text| humantime_settings::from_toml::<$type>(alloc, text).err();
+        let json: crate::support::Read = |alloc, text| humantime_settings::from_json::<$type>(alloc, text).err();
+        [toml, json]
+    }};
+}
+pub(crate) use reads;
 
-/// Asserts that each document has its error, with this text for `JOB`.
-pub(crate) fn assert_errors(rt: &(impl Abort + AllocGlobal), read: Read, job: &str, cases: &[Case<'_>]) -> Result<(), Fail> {
-    let mut wrong = String::new(rt.alloc());
-    for (document, line, column, wanted, message) in cases {
-        let text = document.replace(rt.alloc(), "JOB", job)?;
-        let error = read(rt.alloc(), &text).expect(rt, "read");
-        let marked = match &error {
-            SettingsError::At(error) => error.part.as_str(),
-            _ => "",
-        };
-        let told = (error.line().unwrap_or(0), error.column().unwrap_or(0), marked, error.message());
-        if told != (*line, *column, *wanted, *message) {
-            wrong.push_str(&format!(in rt.alloc(); "{text}\n{told:?}\n")?)?;
+/// A message, and documents with this error. It begins at `^`, and ends at a second one, if its end is known.
+pub(crate) type Row<'a> = (&'a str, &'a [&'a str]);
+
+/// Returns a text with what names in it stand for.
+pub(crate) fn filled(rt: &impl AllocGlobal, text: &str, names: &[(&str, &str)]) -> Result<String, AllocError> {
+    let mut filled = String::from_str(rt.alloc(), text)?;
+    for (name, meaning) in names {
+        filled = filled.replace(rt.alloc(), *name, *meaning)?;
+    }
+    Ok(filled)
+}
+
+/// Returns the second function for a document that begins with a brace, and else the first.
+pub(crate) fn reader([toml, json]: [Read; 2], document: &str) -> Read {
+    if document.trim_start_matches('^').starts_with('{') { json } else { toml }
+}
+
+/// Asserts that each document has its error.
+pub(crate) fn assert_errors(rt: &(impl Abort + AllocGlobal), reads: [Read; 2], names: &[(&str, &str)], rows: &[Row<'_>]) -> Result<(), Fail> {
+    for (message, documents) in rows {
+        let message = filled(rt, message, names)?;
+        for document in *documents {
+            let document = filled(rt, document, names)?;
+            assert_eq!(rt; message_at(rt, reader(reads, &document), &document)?, message, "{document}");
         }
     }
-    assert_eq!(rt; wrong.as_str(), "");
     Ok(())
 }
 
-/// Asserts that a document, if there is one, has an error with this message where the marks `‸` are: where it begins, and where it ends.
-pub(crate) fn assert_marked(rt: &(impl Abort + AllocGlobal), read: Read, document: &str, message: &str) -> Result<(), Fail> {
-    let Some((front, rest)) = document.split_once('‸') else {
-        assert_eq!(rt; document, "");
-        return Ok(());
-    };
-    let (marked, behind) = rest.split_once('‸').unwrap_or(("", rest));
-    let text = format!(in rt.alloc(); "{front}{marked}{behind}")?;
-    let error = read(rt.alloc(), &text);
-    let Some(SettingsError::At(error)) = &error else {
-        panic!(rt; "{error:?} {document}");
+/// Asserts that a document has an error where it is marked, and returns the message.
+pub(crate) fn message_at(rt: &(impl Abort + AllocGlobal), read: Read, document: &str) -> Result<String, Fail> {
+    let (front, rest) = document.split_once('^').ok_or("no mark")?;
+    let (marked, back) = rest.split_once('^').unwrap_or(("", rest));
+    let read_as = read(rt.alloc(), &format!(in rt.alloc(); "{front}{marked}{back}")?);
+    let Some(SettingsError::At(error)) = read_as else {
+        panic!(rt; "{read_as:?} {document}");
     };
     let line = front.matches('\n').count() + 1;
-    let column = front.rsplit('\n').next().unwrap_or("").chars().count() + 1;
-    let told = (error.offset, error.line, error.column(), error.part.as_str(), error.message.as_str());
-    assert_eq!(rt; told, (front.len(), line, column, marked, message), "{document}");
-    Ok(())
+    let column = front.rsplit('\n').next().unwrap_or("").chars().filter(|c| *c != '\u{feff}').count() + 1;
+    // A mark ends with its line.
+    let part = marked.lines().next().unwrap_or("");
+    assert_eq!(rt; (error.offset, error.line, error.column(), error.part.as_str()), (front.len(), line, column, part), "{document}");
+    Ok(error.message)
 }
