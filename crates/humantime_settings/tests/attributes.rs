@@ -12,7 +12,7 @@ type Wait = AsText<StdDuration>;
 #[derive(Debug, Drop, Deserialize)]
 struct All {
     server: Option<Server>, inside: Option<Inside>, beside: Option<Beside>, mode: Option<Mode>, either: Option<Either>, eithers: Option<Vec<Either>>,
-    flat: Option<Flat>, sizes: Option<Sizes>, counts: Option<BTreeMap<i64, Wait>>, flags: Option<BTreeMap<u8, bool>>,
+    plain: Option<Vec<Plain>>, flat: Option<Flat>, sizes: Option<Sizes>, counts: Option<BTreeMap<i64, Wait>>, flags: Option<BTreeMap<u8, bool>>,
 }
 
 #[derive(Debug, Drop, Deserialize)]
@@ -40,6 +40,9 @@ enum Beside { One(Wait), Many(Vec<Wait>), Named { first: Wait }, Nothing }
 #[derive(Debug, Drop, Deserialize)]
 #[serde(rename_all = "kebab-case")]
 enum Mode { FullSpeed, SlowDown(u32), #[serde(alias = "off")] TurnedOff { since: AsText<SystemTime> } }
+
+#[derive(Debug, Drop, Deserialize)]
+enum Plain { One(Wait), Four }
 
 #[derive(Debug, Drop, Deserialize)]
 #[serde(untagged)]
@@ -127,7 +130,8 @@ const WRONG: &[Row<'static>] = &[
     // No tag.
     ("unknown variant `fast`, expected one of MODES", &["mode = ^'fast'", r#"{"mode":^"fast"}"#]),
     ("unknown variant `SlowDown`, expected one of MODES", &["mode = { ^SlowDown = 1 }", r#"{"mode":{^"SlowDown":1}}"#]),
-    ("unknown variant `turned`, expected one of MODES", &["[mode.^turned]\n", r#"{"mode":{^"turned":{}}}"#]),
+    ("unknown variant `turned`, expected one of MODES", &["[mode.^turned]\n", "[[mode.^turned]]\n", r#"{"mode":{^"turned":{}}}"#]),
+    (r#"unknown time unit "x", UNITS"#, &["plain = [{ Four = {} }, { One = '2^x^' }]", r#"{"plain":[{"Four":null},{"One":"2^x^"}]}"#]),
     ("invalid type: unit variant, expected a variant with data", &["mode = ^'slow-down'", r#"{"mode":^"slow-down"}"#]),
     (r#"invalid type: string "x", expected an integer"#, &["mode = { slow-down = ^'x' }", r#"{"mode":{"slow-down":^"x"}}"#]),
     ("invalid type: integer `1`, expected unit", &["mode.full-speed = ^1", r#"{"mode":{"full-speed":^1}}"#]),
@@ -141,7 +145,7 @@ const WRONG: &[Row<'static>] = &[
     // `untagged`.
     ("data did not match any variant of untagged enum", &[
         "either = ^'1h 2parsecs'", r#"{"either":^"1h 2parsecs"}"#, "either = ^-1", r#"{"either":^-1}"#, "either = ^['1s', 5]", r#"{"either":^["1s",5]}"#,
-        "eithers = ['1s', ^'x', 5]", r#"{"eithers":["1s",^"x",5]}"#,
+        "either = ^['1h', '1h 2parsecs']", r#"{"either":^["1h","1h 2parsecs"]}"#, "eithers = ['1s', ^'x', 5]", r#"{"eithers":["1s",^"x",5]}"#,
         "eithers = [['1s'], ^['1s', ['2s']]]", r#"{"eithers":[["1s"], ^["1s",["2s"]]]}"#, "^[[eithers]]\nx = 1\n[[eithers]]\n", r#"{"eithers":[1,^{"x":1}]}"#,
     ]),
     // `flatten`.
@@ -160,10 +164,11 @@ const WRONG: &[Row<'static>] = &[
     (r#"invalid type: string "yes", expected a boolean"#, &["flags.7 = ^'yes'", r#"{"flags":{"7":^"yes"}}"#]),
 ];
 
-/// The names of the fields and variants above, and one that is unknown.
+/// The names of the fields and variants above, one that is unknown, and the end of a message.
 const NAMES: &[(&str, &str)] = &[
     ("FIELDS", "`max-age`, `listen.on`, `retries`, `idle-time`, `weight`, `is-open`, `letter`, `pair`, `both`"),
     ("KINDS", "`one_time`, `never`, `many times`"), ("VARIANTS", "`One`, `Many`, `Named`, `Nothing`"), ("MODES", "`full-speed`, `slow-down`, `turned-off`"),
+    ("UNITS", "supported units: ns, us/µs, ms, sec, min, hours, days, weeks, months, years (and few variations)"),
     ("LONG", "kkkkkkkkkkkkkkkkkkkkkkkkkkkkkkkkkkkkkkkkkkkkkkkkkkkkkkkkkkkkkkkkkkkkkk.kkkkkkkkkkkkkkkkkkkkkkkkkkkkkk"),
 ];
 

@@ -83,6 +83,7 @@ const ERRORS: &[Row<'static>] = &[
     ("invalid type: integer `-7`, expected a string", &[r#"{"timeout":"2h","more.every":^-7}"#]),
     ("invalid type: boolean `false`, expected a map", &[r#"{"timeout":"2h","job":^false}"#]),
     ("invalid value: integer `9223372036854775808`, expected an integer in range", &[r#"{"counts":[1, ^9223372036854775808 ]}"#]),
+    ("invalid value: integer `-9223372036854775809`, expected an integer in range", &[r#"{"counts":[^-9223372036854775809]}"#]),
     ("duplicate field `timeout`", &["{\"timeout\":\"2h\",\n ^\"timeout\" :\n\"2h\"}", r#"{"timeout":"2h",^"time\u006fut":"\""}"#, r#"{"limit":"1s",^"timeout":"2h"}"#]),
     ("duplicate field `timeout`", &["^timeout = '2h'\nlimit = '1s'\nJOB"]),
     ("duplicate field `name`", &[r#"{"job":{"name":"a",^"name":"b"}}"#, "job = { ^name = 'a', label = 'b' }"]),
@@ -271,7 +272,7 @@ fn errors_are_printed(rt: HostRuntime) -> Result<(), Fail> {
 fn long_lines_are_cut(rt: HostRuntime) -> Result<(), Fail> {
     let alloc = rt.alloc();
     // A line of 500 bytes is shown whole, and of a longer one at most 100 bytes on each side of the error and in it.
-    for (space, count, front, shown, columns) in [(" ", 486, "timeout = '", 486, 498), (" ", 487, "...", 99, 103)] {
+    for (space, count, front, shown, columns) in [(" ", 486, "timeout = '", 486, 498), (" ", 487, "...", 99, 103), ("\u{3000}", 200, "...", 33, 70)] {
         let text = format!(in alloc; "timeout = '{}1~'", space.repeat(alloc, count)?)?;
         let (near, blank) = (space.repeat(alloc, shown)?, " ".repeat(alloc, columns)?);
         let (column, at) = (count + 13, count * space.len() + 1);
@@ -315,7 +316,7 @@ fn each_byte_alone(rt: HostRuntime) -> Result<(), Fail> {
 /// Names of texts that are repeated, and how often.
 const MUCH: &[(&str, &str, usize)] = &[
     ("TABS", "\\t", 10_000), ("OTHERS", "'1s', ", 5_000), ("TABLES", "[[more]]\nname = 'a'\nevery = '1s'\nsince = '2018-02-14 00:28:07'\n", 250),
-    ("OPEN78", "[", 78), ("CLOSE78", "]", 78), ("OPEN80", "[", 80), ("CLOSE80", "]", 80), ("OPEN126", "[", 126), ("CLOSE126", "]", 126),
+    ("LINES", "\n", 300), ("OPEN78", "[", 78), ("CLOSE78", "]", 78), ("OPEN80", "[", 80), ("CLOSE80", "]", 80), ("OPEN126", "[", 126), ("CLOSE126", "]", 126),
 ];
 
 /// Errors behind much else, or in much else. In JSON the object and 126 arrays are passed, and no more. In TOML a list is right, and its item
@@ -327,7 +328,7 @@ const LARGE: &[Row<'static>] = &[
         "timeout = '1s'\nJOB\nTABLES[[more]]\nname = 'a'\nevery = '1^~^'",
     ]),
     ("expected a duration in quotes", &[
-        r#"{"x":OPEN126CLOSE126,"timeout":^1}"#, "timeout = '1s'\npauses = [^[]]\nJOB",
+        "{LINES\"timeout\":^1}", r#"{"x":OPEN126CLOSE126,"timeout":^1}"#, "timeout = '1s'\npauses = [^[]]\nJOB",
         "timeout = '1s'\npauses = [^OPEN78CLOSE78]\nJOB",
     ]),
     ("recursion limit exceeded", &[r#"{"x":OPEN126^[]CLOSE126,"timeout":1}"#]),
