@@ -1,6 +1,7 @@
 //! Documents with errors, in JSON and in TOML.
 
-use crate::support::{Row, assert_errors, message_at, reader, reads};
+use crate::drawn::Table;
+use crate::support::{Row, assert_errors, filled, message_at, reader, reads};
 use humantime::{Duration, StdDuration, SystemTime, Timestamp};
 use humantime_settings::{AsText, SettingsError};
 use serde::Deserialize;
@@ -316,7 +317,9 @@ fn each_byte_alone(rt: HostRuntime) -> Result<(), Fail> {
 /// Names of texts that are repeated, and how often.
 const MUCH: &[(&str, &str, usize)] = &[
     ("TABS", "\\t", 10_000), ("OTHERS", "'1s', ", 5_000), ("TABLES", "[[more]]\nname = 'a'\nevery = '1s'\nsince = '2018-02-14 00:28:07'\n", 250),
-    ("LINES", "\n", 300), ("OPEN78", "[", 78), ("CLOSE78", "]", 78), ("OPEN80", "[", 80), ("CLOSE80", "]", 80), ("OPEN126", "[", 126), ("CLOSE126", "]", 126),
+    ("LINES", "\n", 300), ("BLANKS", " ", 4000), ("ESCAPES", "\\u0020", 700), ("EMPTY", "{},", 1500), ("HEADERS", "[[many]]\n", 500),
+    ("ARRAYS", "[", 4000), ("OBJECTS", "{\"x\":", 900), ("NESTED", "{x=", 1500), ("DOTTED", "x.", 2000), ("OPEN78", "[", 78), ("CLOSE78", "]", 78),
+    ("OPEN80", "[", 80), ("CLOSE80", "]", 80), ("OPEN126", "[", 126), ("CLOSE126", "]", 126), ("BRACES80", "{x=", 80), ("BRACES127", "{\"x\":", 127),
 ];
 
 /// Errors behind much else, or in much else. In JSON the object and 126 arrays are passed, and no more. In TOML a list is right, and its item
@@ -335,15 +338,38 @@ const LARGE: &[Row<'static>] = &[
     ("cannot recurse further; max recursion depth met", &["timeout = '1s'\npauses = OPEN80^[]CLOSE80\nJOB"]),
 ];
 
+/// Errors of tables, each of which is right with an `s` in place of what is marked, or contains too much in one another.
+const LARGE_TABLES: &[Row<'static>] = &[
+    ("invalid character at 4001", &[r#"{"wait":"BLANKS1^~^"}"#, "wait = 'BLANKS1^~^'"]),
+    ("invalid character at 701", &[r#"{"wait":"ESCAPES1^~^"}"#, "wait = \"ESCAPES1^~^\""]),
+    ("invalid character at 1", &[
+        r#"{"named":{"ESCAPES":"1^~^"}}"#, "named.\"ESCAPES\" = '1^~^'", r#"{"named":{MEMBERS"z":"1^~^"}}"#, "[named]\nKEYSz = '1^~^'",
+        r#"{"many":[EMPTY{"wait":"1^~^"}]}"#, "many = [EMPTY{ wait = '1^~^' }]", "HEADERSwait = '1^~^'",
+    ]),
+    ("recursion limit exceeded", &[r#"{"x":OPEN126^ARRAYS"#, "BRACES127^OBJECTS"]),
+    ("cannot recurse further; max recursion depth met", &["x = OPEN80^ARRAYS", "x = BRACES80^NESTED", "^DOTTEDx = 1"]),
+];
+
 #[test]
 fn errors_in_large_documents(rt: HostRuntime) -> Result<(), Fail> {
-    let (alloc, mut much) = (rt.alloc(), Vec::new(rt.alloc()));
+    let alloc = rt.alloc();
+    let (mut much, mut keys, mut members) = (Vec::new(alloc), String::new(alloc), String::new(alloc));
     for (name, text, count) in MUCH {
         much.push((*name, text.repeat(alloc, *count)?))?;
     }
-    let mut names = vec![in alloc; NAMES[0]]?;
+    for number in 0..300 {
+        keys.push_str(&format!(in alloc; "key{number} = '1s'\n")?)?;
+        members.push_str(&format!(in alloc; "\"key{number}\":\"1s\",")?)?;
+    }
+    let mut names = vec![in alloc; NAMES[0], ("KEYS", keys.as_str()), ("MEMBERS", members.as_str())]?;
     for (name, text) in &much {
         names.push((*name, text.as_str()))?;
     }
-    assert_errors(&rt, reads!(Jobs), &names, LARGE)
+    assert_errors(&rt, reads!(Jobs), &names, LARGE)?;
+    assert_errors(&rt, reads!(Table), &names, LARGE_TABLES)?;
+    for document in LARGE_TABLES.iter().flat_map(|row| row.1).filter(|document| document.contains('~')) {
+        let right = filled(&rt, &document.replace(alloc, "^~^", "s")?, &names)?;
+        assert!(rt; reader(reads!(Table), &right)(alloc, &right).is_none(), "{document}");
+    }
+    Ok(())
 }
