@@ -102,7 +102,7 @@ impl<E> Located<E> {
     }
 
     /// Returns this error for a string with `offset` more bytes before it: adds `offset` to both ends of the range. A sum above `usize::MAX`
-    /// becomes `usize::MAX`.
+    /// becomes `usize::MAX`. The message stays the same: an offset in it counts from the start of the string that was parsed.
     ///
     /// # Examples
     ///
