@@ -21,20 +21,29 @@ const DATE: usize = 11;
 
 fn main(rt: HostRuntime) -> io::Result<ExitCode> {
     let words = env::args(&rt)?.skip(1).collect::<Vec<String>>(rt.alloc())?;
-    let [from, to] = words.as_slice() else {
-        eprintln!(rt; "usage: example_log FROM TO")?;
-        return Ok(ExitCode::from(2));
+    let mut log = BufReader::new(rt.alloc(), rt.stdin())?;
+    let mut out = BufWriter::new(rt.alloc(), rt.stdout())?;
+    let status = run(rt.alloc(), &words, &mut log, &mut out, &mut rt.stderr())?;
+    Ok(ExitCode::from(status))
+}
+
+/// Copies the lines of a log between the times of two words, or writes what is wrong with the words, and returns the exit status.
+pub fn run<R: BufRead, W: Write>(
+    alloc: Global,
+    words: &[String],
+    log: &mut R,
+    out: &mut W,
+    err: &mut impl Write,
+) -> io::Result<u8> {
+    let [from, to] = words else {
+        writeln!(err, "usage: example_log FROM TO")?;
+        return Ok(2);
     };
     match range_of(from, to) {
-        Ok(range) => {
-            let mut log = BufReader::new(rt.alloc(), rt.stdin())?;
-            let mut out = BufWriter::new(rt.alloc(), rt.stdout())?;
-            copy_lines(rt.alloc(), &range, &mut log, &mut out)?;
-            Ok(ExitCode::SUCCESS)
-        }
+        Ok(range) => copy_lines(alloc, &range, log, out).map(|()| 0),
         Err((name, text, error)) => {
-            eprintln!(rt; "example_log: {name}: {}", error.report(text))?;
-            Ok(ExitCode::from(2))
+            writeln!(err, "example_log: {name}: {}", error.report(text))?;
+            Ok(2)
         }
     }
 }
@@ -43,7 +52,7 @@ fn main(rt: HostRuntime) -> io::Result<ExitCode> {
 type Wrong<'a> = (&'static str, &'a str, Located<TimestampError>);
 
 /// Returns the range between two timestamps, or the first one that is wrong.
-pub fn range_of<'a>(from: &'a str, to: &'a str) -> Result<Range<SystemTime>, Wrong<'a>> {
+fn range_of<'a>(from: &'a str, to: &'a str) -> Result<Range<SystemTime>, Wrong<'a>> {
     match (
         located::parse_rfc3339_weak(from),
         located::parse_rfc3339_weak(to),
@@ -55,7 +64,7 @@ pub fn range_of<'a>(from: &'a str, to: &'a str) -> Result<Range<SystemTime>, Wro
 }
 
 /// Copies the lines of a log whose times are in a range, each with the lines without a timestamp that follow it.
-pub fn copy_lines<R: BufRead, W: Write>(
+fn copy_lines<R: BufRead, W: Write>(
     alloc: Global,
     range: &Range<SystemTime>,
     log: &mut R,

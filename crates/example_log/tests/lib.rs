@@ -1,23 +1,36 @@
 //! Arguments that are wrong, a line that is longer than a piece, and a log or an output that fails.
 #![tactic(auto)]
 
-use example_log::{copy_lines, range_of};
-use humantime::TimestampError;
+use example_log::run;
+use std::alloc::{AllocError, Global};
 use std::io::{self, BufReader, Cursor, Read};
 use std::test::Fail;
 
 const FROM: &str = "2018-02-14 00:28:07";
 const TO: &str = "2018-02-14 00:28:08";
 
-#[test]
-fn a_wrong_argument_is_named(rt: HostRuntime) {
-    for (from, to, name, error, part) in &[
-        ("yesterday", TO, "FROM", TimestampError::InvalidFormat, "y"),
-        (FROM, "2018-02-30 00:00:00", "TO", TimestampError::OutOfRange, "30"),
-    ] {
-        let wrong = range_of(from, to).err().map(|(name, text, wrong)| (name, wrong.error, wrong.underline(text).part));
-        assert_eq!(rt; wrong, Some((*name, *error, *part)));
+fn line_of(alloc: Global, words: &[&str]) -> Result<Vec<String>, AllocError> {
+    let mut line = Vec::new(alloc);
+    for word in words {
+        line.push(String::from_str(alloc, word)?)?;
     }
+    Ok(line)
+}
+
+#[test]
+fn each_stream_is_written(rt: HostRuntime) -> Result<(), Fail> {
+    for (words, status, message) in &[
+        ([FROM, TO].as_slice(), 0, ""),
+        ([FROM].as_slice(), 2, "usage: example_log FROM TO\n"),
+        (["yesterday", TO].as_slice(), 2, "example_log: FROM: timestamp format is invalid\n  yesterday\n  ^\n"),
+        ([FROM, "2018-02-30 00:00:00"].as_slice(), 2, "example_log: TO: numeric component is out of range\n  2018-02-30 00:00:00\n          ^^\n"),
+    ] {
+        let (mut log, mut out, mut err) = (FROM.as_bytes(), Vec::new(rt.alloc()), Vec::new(rt.alloc()));
+        assert_eq!(rt; run(rt.alloc(), &line_of(rt.alloc(), words)?, &mut log, &mut out, &mut err)?, *status);
+        assert_eq!(rt; String::from_utf8(out)?.as_str(), if *status == 0 { FROM } else { "" });
+        assert_eq!(rt; String::from_utf8(err)?.as_str(), *message);
+    }
+    Ok(())
 }
 
 /// Each piece of the long line but the first begins with the text of a timestamp, as 36 and 65536 differ by a multiple of 20.
@@ -30,9 +43,9 @@ fn a_long_line_comes_whole(rt: HostRuntime) -> Result<(), Fail> {
     }
     kept.push_str("\nwith it\n")?;
     let log = format!(in rt.alloc(); "1970-01-01 00:00:00\nout\n{kept}{TO} late, no line feed")?;
-    let mut out = Vec::new(rt.alloc());
-    copy_lines(rt.alloc(), &range_of(FROM, TO).ok().ok_or("range")?, &mut log.as_bytes(), &mut out)?;
-    assert!(rt; out.as_slice() == kept.as_bytes());
+    let (words, mut out, mut err) = (line_of(rt.alloc(), &[FROM, TO])?, Vec::new(rt.alloc()), Vec::new(rt.alloc()));
+    assert_eq!(rt; run(rt.alloc(), &words, &mut log.as_bytes(), &mut out, &mut err)?, 0);
+    assert!(rt; out.as_slice() == kept.as_bytes() && err.is_empty());
     Ok(())
 }
 
@@ -48,13 +61,13 @@ impl Read for Broken {
 
 #[test]
 fn a_failure_is_an_error_after_the_lines_before_it(rt: HostRuntime) -> Result<(), Fail> {
-    let (log, range) = ("2018-02-14 00:28:07.5 kept\nwith", range_of(FROM, TO).ok().ok_or("range")?);
+    let (log, words) = ("2018-02-14 00:28:07.5 kept\nwith", line_of(rt.alloc(), &[FROM, TO])?);
     let mut broken = BufReader::new(rt.alloc(), log.as_bytes().chain(Broken))?;
-    let mut out = Vec::new(rt.alloc());
-    let failure = copy_lines(rt.alloc(), &range, &mut broken, &mut out).err();
+    let (mut out, mut err) = (Vec::new(rt.alloc()), Vec::new(rt.alloc()));
+    let failure = run(rt.alloc(), &words, &mut broken, &mut out, &mut err).err();
     assert_eq!(rt; failure.map(|error| error.kind()), Some(io::ErrorKind::ConnectionReset));
     assert!(rt; out.as_slice() == b"2018-02-14 00:28:07.5 kept\n".as_slice());
-    let failure = copy_lines(rt.alloc(), &range, &mut log.as_bytes(), &mut Cursor::new([0; 9])).err();
+    let failure = run(rt.alloc(), &words, &mut log.as_bytes(), &mut Cursor::new([0; 9]), &mut err).err();
     assert_eq!(rt; failure.map(|error| error.kind()), Some(io::ErrorKind::WriteZero));
     Ok(())
 }
