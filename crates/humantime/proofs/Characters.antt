@@ -19,8 +19,6 @@ pub whitespace_is : (c : ℕ) → std_is_whitespace c ≡ is_whitespace c
 unfolding is_whitespace whitespace_chars
 whitespace_is c = grind (arith, nat_tests)
 
--- ---- one test excludes the others
-
 pub digit_not_whitespace : (c : ℕ) → is_digit c ≡ true → is_whitespace c ≡ false
 unfolding is_digit
 digit_not_whitespace c e = grind (arith, nat_tests, (whitespace_is c))
@@ -37,8 +35,6 @@ ascii_whitespace c low = agree_below_at is_whitespace (λ c. c == 32 || (nat_le 
 pub point_not_numeric : (c : ℕ) → is_point c ≡ true → is_numeric c ≡ false
 unfolding is_digit is_point
 point_not_numeric c e = grind (arith, (whitespace_is c), nat_tests)
-
--- ---- what a number holds
 
 pub digit_is_numeric : (c : ℕ) → is_digit c ≡ true → is_numeric c ≡ true
 digit_is_numeric c = or_left (is_digit c) (is_whitespace c)

@@ -69,8 +69,6 @@ nineteen _ h = absurd (omega arith)
 
 -- ==== Bytes and numbers that are tested at once are tested as if one by one.
 
--- ---- A test of all lanes
-
 -- All bits of a mask are set.
 abbrev pub are_set : List Bool → Bool
 are_set ms = list_all (λ m. m) ms
@@ -86,8 +84,6 @@ zeros_compared xs long =
     let size = length-zip2 eqb xs (replicate 16 0) long ∙ long in
     rw (tops_compared w8 eqb xs (replicate 16 0), mask_l-mod (zip2 eqb xs (replicate 16 0)) 64 (omega (arith, size)))
     (rw size at (all_bits (zip2 eqb xs (replicate 16 0))) ∙ ap are_set (zip2_splat eqb xs 16 0 long) ∙ list_all-map (λ m. m) (λ x. eqb x 0) xs)
-
--- ---- Date and time
 
 -- The difference of two bytes, wrapping around.
 abbrev pub above : ℕ → ℕ → ℕ

@@ -67,8 +67,6 @@ no_whitespace cs none = grind (arith, len_utf8_bounds)
 pub digit_stays : (cs : List ℕ) → begins is_digit cs ≡ true → cs ≡ drop_while is_whitespace cs
 digit_stays cs d = grind (arith, digit_not_whitespace)
 
--- ---- letters
-
 -- Tests whether two bytes are the micro sign or the Greek letter mu.
 abbrev pub is_mu_pair : ℕ → ℕ → Bool
 is_mu_pair first second = (first == 0xc2 && second == 0xb5) || (first == 0xce && second == 0xbc)
@@ -111,8 +109,6 @@ no_letter text at u here other none = grind (arith, common_steps, nat_tests, (ch
 pub no_whitespace_at_mu : (text : List ℕ) (at : ℕ) → IsUtf8 text → IsCharBoundary text at → at + 1 < length text
     → is_mu_pair (get_or text at 0) (get_or text (at + 1) 0) ≡ true → whitespace_len (chars (drop at text)) ≡ 0
 no_whitespace_at_mu text at u place some pair = grind (arith, common_steps, nat_tests, letter_not_whitespace, mu_over)
-
--- ---- what ends a span
 
 -- Whitespace ends a span.
 pub whitespace_ends : (text : List ℕ) (at : ℕ) → IsUtf8 text → 0 < length text → 0 < whitespace_len (chars text) → at ≡ 0 + whitespace_len (chars text)

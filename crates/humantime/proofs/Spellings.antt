@@ -79,8 +79,6 @@ next_smaller rest e = grind (arith, drop_while_shorter, (drop_while_shorter is_n
 
 -- ==== The tests at the start of a span find the error that the table of first errors gives.
 
--- ---- each test, and the condition of the table
-
 -- A fraction has no digits.
 no_digits : (fraction : Option (List ℕ)) → Decides (is_some_and (λ ds. length ds == 0) fraction) (fraction ≡ Some [])
 no_digits (Some (d ∷ ds)) = grind (arith, nat_tests)
@@ -98,8 +96,6 @@ no_word_ends cs e none more = grind arith
 pub some_letters : (word : List ℕ) → IsSome (scale_of_word word) → word ≢ []
 unfolding scale_of_word
 some_letters word h e = grind arith
-
--- ---- the chain and the table
 
 -- An error of the table is found by the tests.
 pub stops_at : (text front : List ℕ) (spans : List SpelledSpan) (rest : List ℕ) (e : Fault) → rest ≢ [] → IsStoppedWith text front spans rest e → fault_at text rest ≡ Some e

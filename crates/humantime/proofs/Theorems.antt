@@ -33,8 +33,6 @@ use Rattle.humantime.proofs.TimestampOutcomes.{strict_is_marked_weak, strict_mom
 
 -- ==== The laws of durations as theorems over plain variables, each under its name in `laws`.
 
--- ---- texts of durations
-
 pub one_outcome : (text : List ℕ) → HasOneOutcome text
 one_outcome text = search (rules, exactly_one_outcome, one_reading, one_list_of_items, answer_accepts, answer_faults)
 
@@ -55,8 +53,6 @@ value_of_view r v h = grind arith
 -- Two errors are equal if and only if their faults are.
 pub errors_equal : (e f : DurationError) → IsTrue (TheImpl.ghosts.eq e f) ↔ (fault_of e ≡ fault_of f)
 errors_equal e f = grind (arith, nat_tests, bytes_eq-Decides)
-
--- ---- printed durations
 
 pub printed_duration_reads : (d : ℕ) → d < duration_end → PrintsAndReads d
 printed_duration_reads d fits =
@@ -88,13 +84,9 @@ canonical_again s =
 
 -- ==== Texts that were accepted while trailing zeros of fractions counted.
 
--- ---- what spans added
-
 all_added : (spans : List SpelledSpan) → older_additions spans ≡ additions spans
 all_added [] = refl
 all_added (s ∷ spans) = grind (arith, common_steps, amount_kept, (all_added spans))
-
--- ---- what was accepted
 
 still_within : (spans : List SpelledSpan) → AllByRecursion OlderFormed spans → AllByRecursion Formed spans × AllByRecursion (λ s. fits s ≡ true) spans
 still_within [] older = (tt, tt)
@@ -136,8 +128,6 @@ reordered a b =
 
 -- ==== The laws of timestamps and days as theorems over plain variables, each under its name in `laws`, and others that callers cite.
 
--- ---- Parsing timestamps
-
 pub one_stamp_outcome : (text : List ℕ)
     → HasOneTimestamp (weak_checks text) (IsWeak text) (weak_answer text)
     × HasOneTimestamp (strict_checks text) (IsStrict text) (strict_answer text)
@@ -155,8 +145,6 @@ strict_is_weak text =
       marked = λ t given. ((law t).0 ((in_strict t).0 given)).1;
       strict = λ t given marked. (in_strict t).1 ((law t).1 ((in_weak t).0 given, marked));
     }
-
--- ---- Printing timestamps
 
 -- The result of parsing a printed text.
 pub printed_read : (t : ℤ) (k : ℕ) (text : List ℕ) → IsPrinted t k text → strict_answer text ≡ Ok (cut t k)

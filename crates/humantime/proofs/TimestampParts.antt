@@ -46,8 +46,6 @@ number_of_four bytes long century decade =
 
 -- ==== The digits of a fraction, parsed one by one, are its nanoseconds.
 
--- ---- Digits
-
 -- Each byte is a digit.
 abbrev pub AreDigits : List ℕ → Type 0
 AreDigits ds = AllByRecursion (λ c. IsInRange 48 57 c) ds
@@ -141,8 +139,6 @@ zero_offset_at_end bytes long = rw (last_six bytes (length bytes - 6) (omega (ar
 pub zone_shown : (bytes : List ℕ) → bytes ≡ before_zone bytes ++ zone_text (zone_of bytes)
 unfolding zone_of
 zone_shown bytes = grind (arith, common_steps, take-append-drop)
-
--- ---- Bytes that are not a zone
 
 -- The byte is neither `+` nor `Z`.
 abbrev pub IsPlain : ℕ → Type 0

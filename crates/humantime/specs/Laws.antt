@@ -52,7 +52,6 @@ pub record AreReordered (a b : List ℕ) : Type 0 where
 
 -- An accepted text keeps its value if its whitespace is removed.
 pub record KeepsValueWithoutWhitespace (text : List ℕ) : Type 0 where
-  -- The text without its whitespace is accepted with the same value.
   pub value : (v : ℕ) → Accepted text v → Accepted (without_whitespace text) v
   -- The same holds of the results of parsing.
   pub answer : (v : ℕ) → duration_answer text ≡ Ok v → duration_answer (without_whitespace text) ≡ Ok v
@@ -77,7 +76,6 @@ pub record AddWhenJoined (a b : List ℕ) : Type 0 where
 
 -- Two accepted texts whose spans are the same up to their order have equal values. The text `0` has no spans.
 pub record KeepValueReordered (a b : List ℕ) : Type 0 where
-  -- Accepted texts whose spans are permutations of each other have equal values.
   pub value : (ss ts : List SpelledSpan) (u v : ℕ) → Reads a ss → Reads b ts → IsPermutation ss ts
       → Accepted a u → Accepted b v → u ≡ v
   -- The same holds of the results of parsing.
@@ -85,7 +83,6 @@ pub record KeepValueReordered (a b : List ℕ) : Type 0 where
       → duration_answer a ≡ Ok u → duration_answer b ≡ Ok v → u ≡ v
   -- Therefore the results of parsing two such texts are equal, whatever their spans are.
   pub alike : AreReordered a b → (u v : ℕ) → duration_answer a ≡ Ok u → duration_answer b ≡ Ok v → u ≡ v
-  -- The text `0` has no spans.
   pub zero : (spans : List SpelledSpan) → ¬ (Reads bare_zero spans)
 
 -- ==== Texts that slices tile. A text is its list of characters.
@@ -116,7 +113,6 @@ IsOutcome text (Err e) = HasFault text e
 pub record HasOneOutcome (text : List ℕ) : Type 0 where
   -- The text has exactly one value and no fault, or exactly one fault and no value.
   pub outcome : ExactlyOne (IsOutcome text)
-  -- The text does not represent two different lists of spans.
   pub reading : (ss ts : List SpelledSpan) → Reads text ss → Reads text ts → ss ≡ ts
   -- The text has exactly one list of spans, with the error that stops them, if any.
   pub items : ExactlyOne (λ (list : List SpelledSpan × Option Fault). Items text list.0 list.1)
@@ -144,7 +140,6 @@ pub record ItemsDecide (text : List ℕ) : Type 0 where
 
 -- A text has exactly one list of items, and their slices tile the text up to where the spans stop.
 pub record ItemsTile (text : List ℕ) : Type 0 where
-  -- The text has exactly one list of items with their views.
   pub one : ExactlyOne (AreItems text)
   -- Therefore any two such lists are equal.
   pub same : (listed others : List (Result SpanView Fault)) → AreItems text listed → AreItems text others → others ≡ listed
@@ -158,9 +153,7 @@ pub record ItemsTile (text : List ℕ) : Type 0 where
 
 -- A duration has exactly one canonical text, which is the printed one, and which parses to the duration.
 pub record PrintsAndReads (d : ℕ) : Type 0 where
-  -- The duration has exactly one canonical text.
   pub one : ExactlyOne (IsCanonicalText d)
-  -- It is the printed text.
   pub printed : IsCanonicalText d (duration_text d)
   pub only : (bytes : List ℕ) → IsCanonicalText d bytes → bytes ≡ duration_text d
   -- It is accepted with the value `d`.
@@ -170,16 +163,12 @@ pub record PrintsAndReads (d : ℕ) : Type 0 where
 
 -- The canonical texts of two durations, and so the printed ones, are equal if and only if the durations are.
 pub record TextsTellApart (a b : ℕ) : Type 0 where
-  -- The canonical texts of `a` and of `b` nanoseconds are equal if and only if `a` and `b` are.
   pub canon : (bytes other : List ℕ) → IsCanonicalText a bytes → IsCanonicalText b other → ((bytes ≡ other) ↔ (a ≡ b))
-  -- The same holds of the printed texts.
   pub text : (duration_text a ≡ duration_text b) ↔ (a ≡ b)
 
 -- A canonical text has at most 64 bytes, and counts at most 11 months and 30 days.
 pub record IsBounded (d : ℕ) : Type 0 where
-  -- The text has at most 64 bytes.
   pub length : (bytes : List ℕ) → IsCanonicalText d bytes → length bytes ≤ 64
-  -- It counts at most 11 months and at most 30 days.
   pub counts : (counts : List ℕ) → AreCounts d counts → ((slice_index counts 1 ≤ 11) × (slice_index counts 2 ≤ 30))
 
 -- The canonical text of an accepted text has the same value and is its own canonical text. `canonical` returns it, or the fault.
@@ -282,13 +271,9 @@ pub record ReadsAs (bytes : List ℕ) (t : ℤ) : Type 0 where
 -- error of the first check that fails.
 pub record HasOneTimestamp (checks : List (Bool × TimestampError)) (Represents : Fields → Type 0)
     (answer : Result ℤ TimestampError) : Type 0 where
-  -- The text represents some parts if and only if no check fails.
   pub some : ((f : Fields) × Represents f) ↔ (first_failed checks ≡ None)
-  -- It represents no others.
   pub only : (f g : Fields) → Represents f → Represents g → f ≡ g
-  -- The result is the moment of these parts.
   pub value : (t : ℤ) → (answer ≡ Ok t) ↔ ((f : Fields) × Represents f × (t ≡ pos (moment_of f)))
-  -- Otherwise it is the error of the first check that fails.
   pub error : (e : TimestampError) → (answer ≡ Err e) ↔ (first_failed checks ≡ Some e)
 
 -- The strict form is the weak form with a `T` and a zone.
@@ -305,7 +290,6 @@ pub record IsWeakAndMarked (text : List ℕ) : Type 0 where
 
 -- A moment in 1970 to 9999 has exactly one printed text with `k` digits. `Display` writes it, and it parses to the moment rounded down.
 pub record MomentPrintsAndReads (t : ℤ) (k : ℕ) : Type 0 where
-  -- The moment has exactly one printed text.
   pub one : IsPrintable t → ExactlyOne (IsPrinted t k)
   -- `Display` writes this text.
   pub displayed : (text : List ℕ) → (moment_text t k ≡ Some text) ↔ (IsPrintable t × IsPrinted t k text)

@@ -257,7 +257,7 @@ fn fraction_after_seconds(rest: &[u8]) -> Result<u32, TimestampError>
 /// Returns the nanoseconds that the digits after a point represent, or an error if a byte is not a digit. Digits after the ninth
 /// do not change the result.
 ///
-/// The loop runs over the nine places and not over the digits, so that LLVM unrolls it.
+/// The loop runs over the nine decimal places and not over the digits, so that LLVM unrolls it.
 #[inline(always)]
 fn fraction_nanos(digits: &[u8]) -> Result<u32, TimestampError>
     ensures { result ≡ digits_answer digits.now }

@@ -100,9 +100,6 @@ pub fn format_rfc3339(time: SystemTime) -> Rfc3339Timestamp
 
 /// Returns a value that prints `time` as a timestamp with no fraction. The nanoseconds are truncated, not rounded.
 ///
-/// This function never fails. For a time outside 1970 to 9999, [`text`](Rfc3339Timestamp::text) returns `None` and `Display` returns
-/// [`fmt::Error`].
-///
 /// # Examples
 ///
 /// ```
@@ -121,9 +118,6 @@ pub fn format_rfc3339_seconds(time: SystemTime) -> Rfc3339Timestamp
 }
 
 /// Returns a value that prints `time` as a timestamp with three digits after the decimal point. Further digits are truncated, not rounded.
-///
-/// This function never fails. For a time outside 1970 to 9999, [`text`](Rfc3339Timestamp::text) returns `None` and `Display` returns
-/// [`fmt::Error`].
 ///
 /// # Examples
 ///
@@ -144,9 +138,6 @@ pub fn format_rfc3339_millis(time: SystemTime) -> Rfc3339Timestamp
 
 /// Returns a value that prints `time` as a timestamp with six digits after the decimal point. Further digits are truncated, not rounded.
 ///
-/// This function never fails. For a time outside 1970 to 9999, [`text`](Rfc3339Timestamp::text) returns `None` and `Display` returns
-/// [`fmt::Error`].
-///
 /// # Examples
 ///
 /// ```
@@ -165,9 +156,6 @@ pub fn format_rfc3339_micros(time: SystemTime) -> Rfc3339Timestamp
 }
 
 /// Returns a value that prints `time` as a timestamp with nine digits after the decimal point.
-///
-/// This function never fails. For a time outside 1970 to 9999, [`text`](Rfc3339Timestamp::text) returns `None` and `Display` returns
-/// [`fmt::Error`].
 ///
 /// # Examples
 ///

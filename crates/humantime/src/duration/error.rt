@@ -40,11 +40,8 @@ pub enum DurationError<'a> {
         /// The integer part of the number before the unit.
         value: u64,
     },
-    /// A number, its product with the size of its unit, or the sum overflows; or a fraction cannot be represented.
-    ///
-    /// A fraction can be represented if it has at most 19 digits before its trailing zeros and is a whole number of nanoseconds (for units
-    /// up to minutes) or of seconds (for hours and longer units). The product of these digits, as an integer, and the size of the unit in
-    /// nanoseconds or seconds must also fit in a `u64`.
+    /// A number, its product with the size of its unit, or the sum overflows; or a fraction cannot be represented, as
+    /// [`parse_duration`](crate::parse_duration) describes.
     ///
     /// The product of a number and its unit is in nanoseconds for units up to milliseconds, and otherwise in seconds. A product in
     /// nanoseconds, plus the subsecond nanoseconds of the sum so far, must also fit in a `u64`.

@@ -71,8 +71,6 @@ fn add_amount(total: StdDuration, span: Span) -> Option<StdDuration>
 
 /// Returns an iterator over the spans of `s`, from left to right, and then the error at which they end, if any.
 ///
-/// After an error or the end of the string, the iterator always returns `None`.
-///
 /// # Errors
 ///
 /// The errors are those of [`parse_duration`], but products and sums are not checked, nor whether a fraction is a whole number of
