@@ -1,5 +1,6 @@
 -- The items of a text of a duration, and the results of the calls on durations.
 use Rattle.std.specs.Prelude.{ℕ, Bool, true, ◌&&◌, ◌==◌, length, List, Option, map, option_map, Result, Ok, Err, ◌≡◌, ◌↔◌, ◌/◌, ◌%◌, [], ◌∷◌, IfErr, bytes_eq, chars, if◌then◌else◌}
+use Rattle.std.specs.Result.{result_map_both}
 use Rattle.std.specs.Str.{drop_trailing_whitespace}
 use Rattle.humantime.specs.Characters.{take_while, drop_while, decimal_value, is_whitespace, is_numeric, digits, offset_of, bare_zero}
 use Rattle.humantime.specs.Durations.{SpelledSpan, Accepted}
@@ -76,11 +77,6 @@ divided (w ∷ ws) d = d / w ∷ divided ws (d % w)
 unfoldable pub duration_text : ℕ → List ℕ
 duration_text d = joined_by_space (printed_counts (divided weights d) suffixes)
 
--- Returns the printed text of a value, or the error.
-abbrev pub printed_answer : Result ℕ Fault → Result (List ℕ) Fault
-printed_answer (Ok v) = Ok (duration_text v)
-printed_answer (Err e) = Err e
-
 -- Returns the canonical text of the duration that a text denotes, or its first error.
 unfoldable pub canonical_answer : List ℕ → Result (List ℕ) Fault
-canonical_answer text = printed_answer (duration_answer text)
+canonical_answer text = result_map_both duration_text (λ e. e) (duration_answer text)

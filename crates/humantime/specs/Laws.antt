@@ -238,15 +238,11 @@ pub data AcceptedWithZeros (text : List ℕ) (v : ℕ) : Type 0 where
   OlderSum : (spans : List SpelledSpan) → Reads text spans → AllByRecursion OlderFormed spans → AllHaveRoom (older_additions spans)
       → older_value spans ≡ v → AcceptedWithZeros text v
 
--- The text was accepted while trailing zeros of a fraction counted.
-abbrev pub WasAccepted : List ℕ → Type 0
-WasAccepted text = (v : ℕ) × AcceptedWithZeros text v
-
 -- A text that was accepted while trailing zeros of a fraction counted is still accepted with the same value.
 pub record KeepsValueWithZeros (text : List ℕ) : Type 0 where
   pub value : (v : ℕ) → AcceptedWithZeros text v → Accepted text v
   pub answer : (v : ℕ) → AcceptedWithZeros text v → duration_answer text ≡ Ok v
-  pub read : WasAccepted text → IsOk (duration_answer text)
+  pub read : ((v : ℕ) × AcceptedWithZeros text v) → IsOk (duration_answer text)
   -- Spans add what they added then, and so their sum is the same.
   pub added : (spans : List SpelledSpan) → older_additions spans ≡ additions spans
 

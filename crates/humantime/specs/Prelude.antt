@@ -14,7 +14,7 @@ pub use Rattle.humantime.specs.Durations.{Accepted, BareZero, SumOf, value, addi
 pub use Rattle.humantime.specs.Durations.{SpelledSpan, Reads}
 pub use Rattle.humantime.specs.DurationErrors.{Fault, InvalidCharacter, NumberExpected, UnknownUnit, NumberOverflow, Empty, HasFault}
 pub use Rattle.humantime.specs.Laws.{without_whitespace, AreReordered}
-pub use Rattle.humantime.specs.Laws.{AcceptedWithZeros, WasAccepted, older_additions}
+pub use Rattle.humantime.specs.Laws.{AcceptedWithZeros, older_additions}
 -- The items of a text.
 pub use Rattle.humantime.specs.Items.{Items, SpanView, AreItems}
 pub use Rattle.humantime.specs.Laws.{slices_of, IsTiled}

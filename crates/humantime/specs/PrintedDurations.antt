@@ -22,15 +22,11 @@ weighted_sum (w ∷ ws) [] = 0
 weighted_sum (w ∷ ws) (c ∷ cs) = w * c + weighted_sum ws cs
 
 -- The counts, one for each weight, have the weighted sum `d`, and are lexicographically the greatest such counts.
-pub record AreGreatest (ws : List ℕ) (d : ℕ) (counts : List ℕ) : Type 0 where
-  pub as_many : length counts ≡ length ws
-  pub sum : weighted_sum ws counts ≡ d
-  pub greatest : (others : List ℕ) → length others ≡ length ws → weighted_sum ws others ≡ d
+pub record AreCounts (d : ℕ) (counts : List ℕ) : Type 0 where
+  pub as_many : length counts ≡ length weights
+  pub sum : weighted_sum weights counts ≡ d
+  pub greatest : (others : List ℕ) → length others ≡ length weights → weighted_sum weights others ≡ d
       → IsTrue (is_le (slice_cmp nat_cmp others counts))
-
--- The counts are the lexicographically greatest nine whose weighted sum is `d`.
-abbrev pub AreCounts : ℕ → List ℕ → Type 0
-AreCounts d counts = AreGreatest weights d counts
 
 -- A suffix is the text that follows a count, and whether it takes an `s` in the plural.
 abbrev pub Suffix : Type 0

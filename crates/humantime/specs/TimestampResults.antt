@@ -38,15 +38,12 @@ march_date n k day =
     then record { year = 1600 + n; month = k + 3; day = day + 1 }
     else record { year = 1601 + n; month = k - 9; day = day + 1 }
 
--- The date of a day, counted from 0, of year `n`.
-abbrev pub date_in_march_year : ℕ → ℕ → Date
-date_in_march_year n day = march_date n (march_month day) (day - march_months (march_month day))
-
 -- The date `n` days after 1970-01-01.
 unfoldable pub date_of : ℕ → Date
 date_of n =
-    let days = n + 135_080 in
-    date_in_march_year (march_year days) (days - march_days (march_year days))
+    let year = march_year (n + 135_080) in
+    let day = n + 135_080 - march_days year in
+    march_date year (march_month day) (day - march_months (march_month day))
 
 -- ==== The result of parsing a timestamp, and the printed text of a moment, each as one function.
 
