@@ -14,10 +14,10 @@ use Rattle.std.proofs.lemmas.Bool.{and_parts}
 use Rattle.humantime.specs.DurationErrors.{Fault, HasFault}
 use Rattle.humantime.specs.PrintedDurations.{IsCanonicalOf, Suffix, printed_count, joined_by_space, IsCanonicalText}
 use Rattle.humantime.specs.DurationResults.{duration_text, duration_answer, canonical_answer}
-use Rattle.humantime.specs.Values.{nanos_per_second}
+use Rattle.humantime.specs.Values.{duration_end, nanos_per_second}
 use Rattle.humantime.specs.Characters.{whitespace_chars, is_whitespace, u64_max}
 use Rattle.humantime.specs.Durations.{Quantity, SpelledSpan, HasOnly, Spells, SpellsEach, quantity_nanos, size, times, total, additions_of, additions, value, Formed, fits, Accepted, SumOf}
-use Rattle.humantime.proofs.Counts.{printed_is_canon, canon_is_text, decimal_number, space, word_for, span_for, is_of_kind, IsPrintedWord, is_word-true, sized_units, counts_of_units, is_table, table, sum_limit}
+use Rattle.humantime.proofs.Counts.{printed_is_canon, canon_is_text, decimal_number, space, word_for, span_for, is_of_kind, IsPrintedWord, is_word-true, sized_units, counts_of_units, is_table, table}
 use Rattle.humantime.proofs.Outcomes.{answer_accepts, answer_faults, accepted_from_outcome, outcome_accepted}
 use Rattle.humantime.proofs.Spellings.{spells-append}
 use Rattle.humantime.proofs.Sums.{value-cons, IsSmall, small_have_room, room_is_duration}
@@ -49,14 +49,14 @@ IsPrintedSpan n s =
     × Formed (span_for n s) × (fits (span_for n s) ≡ true) × AllByRecursion IsSmall (additions_of (span_for n s))
 
 -- What a count adds, if the remainder is less than `m` and is a duration.
-few : (m n : ℕ) (x : Quantity) → 0 < size x → is_of_kind m x ≡ true → quantity_nanos x * n < m → quantity_nanos x * n < sum_limit
+few : (m n : ℕ) (x : Quantity) → 0 < size x → is_of_kind m x ≡ true → quantity_nanos x * n < m → quantity_nanos x * n < duration_end
     → (n < 2 ^ 64) × (n * size x ≤ u64_max) × IsSmall (times n x) × (quantity_nanos (times n x) ≡ quantity_nanos x * n)
 few m n x some kind below whole = grind (arith, nat_tests, mul_comm, mul_assoc)
 
 count_chars : (n : ℕ) (s : Suffix) → n < 2 ^ 64 → chars (printed_count n s) ≡ decimal n ++ chars (word_for n s)
 count_chars n s h = grind (arith, common_steps, IsAscii-decimal, append_assoc, chars-append, IsUtf8-from_ascii, chars-IsAscii)
 
-printed_span : (w m n : ℕ) (s : Suffix) → IsPrintedWord w m (word_for n s) → w * n < m → w * n < sum_limit → IsPrintedSpan n s × (total (additions_of (span_for n s)) ≡ w * n)
+printed_span : (w m n : ℕ) (s : Suffix) → IsPrintedWord w m (word_for n s) → w * n < m → w * n < duration_end → IsPrintedSpan n s × (total (additions_of (span_for n s)) ≡ w * n)
 printed_span w m n s i below whole =
     let few = few m n i.0.whole i.3 i.4 (rw i.2 below) (rw i.2 whole) in
     let utf8 = IsUtf8-append (decimal n) (word_for n s) (IsUtf8-from_ascii (decimal n) (IsAscii-decimal n few.0)) i.5 in
@@ -73,7 +73,7 @@ abbrev pub AllPrintedSpans : List (ℕ × Suffix) → Type 0
 AllPrintedSpans cs = AllByRecursion (λ c. IsPrintedSpan c.0 c.1) cs
 
 -- The counts that are printed are spans, and the sum of their spans is `d`.
-shown_spans : (us : List (ℕ × Suffix)) (m d : ℕ) → is_table us m ≡ true → d < m → d < sum_limit
+shown_spans : (us : List (ℕ × Suffix)) (m d : ℕ) → is_table us m ≡ true → d < m → d < duration_end
     → AllPrintedSpans (shown (counts_of_units us d)) × (value (spans_of (shown (counts_of_units us d))) ≡ d)
 shown_spans [] m d h below whole = grind (arith, nat_tests)
 shown_spans (u ∷ us) m d h below whole =
@@ -118,7 +118,7 @@ all_accepted (c ∷ cs) d h sum short =
 pub canon_reads : (d : ℕ) → d / nanos_per_second ≤ u64_max → (text : List ℕ) → IsCanonicalText d text → Accepted (chars text) d
 unfolding duration_text
 canon_reads d h text canon =
-    let all = shown_spans sized_units sum_limit d table (omega arith) (omega arith) in
+    let all = shown_spans sized_units duration_end d table (omega arith) (omega arith) in
     rw (canon_is_text d text canon) (all_accepted (shown (counts_of_units sized_units d)) d all.0 all.1 h)
 
 -- ==== Properties of printed texts, for every duration and every text.

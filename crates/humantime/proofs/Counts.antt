@@ -19,7 +19,7 @@ use Rattle.std.proofs.lemmas.Slice.{take-put_mid}
 use Rattle.std.proofs.lemmas.Str.{IsUtf8-append, IsUtf8-from_is_utf8}
 use borrow.Rule.Slice.PartMut.{put_mid}
 use lib.Utf8.{encode}
-use Rattle.humantime.specs.Values.{nanos_per_micro, nanos_per_milli, nanos_per_second, seconds_per_minute, seconds_per_hour, seconds_per_day, seconds_per_month, seconds_per_year}
+use Rattle.humantime.specs.Values.{duration_end, nanos_per_micro, nanos_per_milli, nanos_per_second, seconds_per_minute, seconds_per_hour, seconds_per_day, seconds_per_month, seconds_per_year}
 use Rattle.humantime.specs.DurationResults.{divided, duration_text}
 use Rattle.humantime.specs.PrivateFunctions.{joined_after}
 use Rattle.humantime.specs.PrintedDurations.{Suffix, weights, suffixes, printed_count, printed_counts, joined_by_space, weighted_sum, AreCounts, IsCanonicalText}
@@ -175,11 +175,7 @@ abbrev pub is_table : List (ℕ × Suffix) → ℕ → Bool
 is_table [] m = m == 1
 is_table (u ∷ us) m = is_word u.0 m (word_for 1 u.1) && is_word u.0 m (word_for 2 u.1) && is_table us u.0
 
--- The upper bound of durations.
-abbrev pub sum_limit : ℕ
-sum_limit = 2 ^ 64 * nanos_per_second
-
-pub table : is_table sized_units sum_limit ≡ true
+pub table : is_table sized_units duration_end ≡ true
 unfolding is_letter scale_of_word is_utf8 chars encode
 table = refl
 
@@ -217,7 +213,7 @@ joined_length ps h = grind (arith, join_length)
 pub canon_length : (d : ℕ) → d / nanos_per_second ≤ u64_max → (text : List ℕ) → IsCanonicalText d text → length text ≤ 64
 unfolding duration_text
 canon_length d h text canon =
-    grind (arith, (counts_length sized_units (12 ∷ 2 ∷ 2 ∷ 2 ∷ 2 ∷ 2 ∷ 3 ∷ 3 ∷ 3 ∷ []) sum_limit d (grind arith)), (canon_is_text d text canon), (joined_length (printed_counts (divided weights d) suffixes)))
+    grind (arith, (counts_length sized_units (12 ∷ 2 ∷ 2 ∷ 2 ∷ 2 ∷ 2 ∷ 3 ∷ 3 ∷ 3 ∷ []) duration_end d (grind arith)), (canon_is_text d text canon), (joined_length (printed_counts (divided weights d) suffixes)))
 
 pub counts_small : (d : ℕ) (counts : List ℕ) → AreCounts d counts → (slice_index counts 1 ≤ 11) × (slice_index counts 2 ≤ 30)
 counts_small d counts greatest = rw (counts_divided d counts greatest) (omega arith, omega arith)

@@ -185,7 +185,7 @@ pub ruleset rests = (slice_tail, whole_tail, no_bytes, some_chars, no_chars_at, 
 pub ruleset first = (rests, char_at, digit_at, digit_stays, cases_lt, ne_eqb, common_steps, nat_tests)
 
 -- The letters from an offset on.
-pub ruleset letters = (ascii_letter, mu_letter, no_letter, slice_tail, no_chars_at, IsCharBoundary-start, nat_tests)
+pub ruleset letters = (ascii_letter, mu_letter, no_letter, front_is, slice_tail, no_chars_at, IsCharBoundary-start, nat_tests)
 
 -- Whitespace at an offset.
 pub ruleset whitespace_at = (ascii_at, ascii_whitespace, no_whitespace_at_mu, common_steps, nat_tests)
