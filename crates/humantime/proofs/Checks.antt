@@ -1,15 +1,8 @@
 -- The layout of a timestamp, tested on all bytes at once.
 use Rattle.humantime.specs.TimestampResults.{weak_answer}
-use Rattle.std.proofs.Common.{◌≡◌, ℕ, ◌≤◌, List, [], ◌∷◌, length, get_or, drop, refl, arith, ◌+◌, ◌-◌, ◌%◌, ◌^◌, ◌<◌, Bool, cond, eqb, ltb, ◌&&◌, map, replicate, take, Fits, w8, ap, ◌∙◌, ◌*◌, T}
+use Rattle.humantime.proofs.Prelude.{◌≡◌, ℕ, ◌≤◌, List, [], ◌∷◌, length, get_or, drop, refl, arith, ◌+◌, ◌-◌, ◌%◌, ◌^◌, ◌<◌, Bool, cond, eqb, ltb, ◌&&◌, map, replicate, take, Fits, w8, ap, ◌∙◌, ◌*◌, T, byte, all_ascii_digits, and_parts, le-leb, agree_below_at, common_steps, take_rest, nat_tests, is_ascii_digit, list_all}
 use Rattle.std.specs.Prelude.{true, slice_index, Option, Some, None, ◌==◌, if◌then◌else◌, codes, nat_eq, bit_or, ⊤}
-use Rattle.std.specs.Str.{byte, all_ascii_digits}
-use Rattle.std.proofs.lemmas.Bool.{and_parts, le-leb, agree_below_at}
-use Rattle.std.proofs.lemmas.Grind.{common_steps}
-use Rattle.std.proofs.lemmas.List.{take_rest}
 use Rattle.std.proofs.lemmas.Result.{err_from_is_err_and}
-use Rattle.std.proofs.lemmas.Bool.Decides.{nat_tests}
-use Rattle.std.specs.Char.{is_ascii_digit}
-use Rattle.std.specs.List.{list_all}
 use Rattle.std.proofs.lemmas.List.Folds.{list_all-map}
 use Rattle.std.proofs.lemmas.Nat.{le_or_l, le_or_r}
 use Rattle.std.proofs.lemmas.Simd.{mask_l-mod, tops_compared, length-zip2, zip2_splat}

@@ -1,18 +1,12 @@
 -- The counts of a duration by unit, and the texts that they print as.
-use Rattle.std.proofs.Common.{ℕ, ◌<◌, ◌≤◌, length, arith, ◌≡◌, ◌/◌, ◌%◌, List, [], ◌∷◌, refl, ap, ◌∙◌, rules, ◌++◌, ◌^◌, true, nat_cmp, IsTrue, ◌*◌, Bool, cond, ◌+◌, append_assoc, length-append, is_le, take, sym, subst}
-use Rattle.std.specs.Prelude.{decimal, ◌==◌, if◌then◌else◌, codes, ◌&&◌, Some, None, nat_lt, nat_le, map, slice_index, ⊤}
+use Rattle.humantime.proofs.Prelude.{ℕ, ◌<◌, ◌≤◌, length, arith, ◌≡◌, ◌/◌, ◌%◌, List, [], ◌∷◌, refl, ap, ◌∙◌, rules, ◌++◌, ◌^◌, true, nat_cmp, IsTrue, ◌*◌, Bool, cond, ◌+◌, append_assoc, length-append, is_le, take, sym, subst, decimal, ◌==◌, if◌then◌else◌, codes, ◌&&◌, Some, None, nat_lt, nat_le, map, slice_index, ⊤, common_steps, nat_tests, mul_comm, div-add-mod, cases_lt, slice_cmp}
 use Rattle.std.proofs.lemmas.Fmt.{length-decimal-le, decimal_is_IsNumeral}
-use Rattle.std.proofs.lemmas.Grind.{common_steps}
 use Rattle.std.specs.List.{AllByRecursion, list_all, zip, filter, join_with_byte}
-use Rattle.std.proofs.lemmas.Bool.Decides.{nat_tests}
 use Rattle.std.specs.Str.Parse.{AllDigits}
 use Rattle.std.proofs.lemmas.Str.Parse.{digit_from_value}
-use Rattle.std.proofs.Math.Nat.{mul_comm, div-add-mod}
 use Rattle.std.proofs.lemmas.Nat.{le-div, mod_below, div_below}
-use Rattle.std.proofs.lemmas.Bool.{cases_lt}
 use Rattle.std.proofs.lemmas.Cmp.{nat_list_cmp_total}
 use Rattle.std.proofs.lemmas.Map.Lookups.{exact_bytes}
-use Rattle.std.specs.Cmp.Lexicographic.{slice_cmp}
 use Rattle.std.specs.Cmp.{nat_cmp_is}
 use Rattle.std.specs.Str.{IsUtf8, is_utf8, chars}
 use Rattle.std.proofs.lemmas.Slice.{take-put_mid}

@@ -1,19 +1,16 @@
 -- The value of a text without whitespace, and of two texts that are joined.
 use Rattle.std.proofs.lemmas.Grind.{common_steps, flat_map-append}
-use Rattle.std.proofs.Common.{◌≡◌, ℕ, Bool, List, [], ◌∷◌, refl, arith, ◌≢◌, ◌↔◌, ◌⊎◌, ◌+◌, true, ◌++◌, None, inl, inr, append_assoc, append-nil}
+use Rattle.humantime.proofs.Prelude.{◌≡◌, ℕ, Bool, List, [], ◌∷◌, refl, arith, ◌≢◌, ◌↔◌, ◌⊎◌, ◌+◌, true, ◌++◌, None, inl, inr, append_assoc, append-nil, sum_by-append, AllByRecursion}
 use Rattle.std.proofs.lemmas.Bool.{or_parts}
-use Rattle.std.proofs.lemmas.List.Sums.{sum_by-append}
-use Rattle.std.specs.List.{AllByRecursion}
 use Rattle.humantime.specs.Characters.{is_whitespace, is_letter, digits, is_point, is_digit, bare_zero}
 use Rattle.humantime.specs.Durations.{SpelledSpan, HasOnly, Spells, SpellsEach, SpellsAll, Reads, Accepted, BareZero, SumOf, additions, value, Formed, fits, AllHaveRoom, additions_of}
 use Rattle.humantime.specs.Laws.{without_whitespace, AcceptedAs}
 use Rattle.humantime.specs.DurationErrors.{NumberOverflow, HasFault}
 use Rattle.humantime.proofs.Characters.{digit_not_whitespace, letter_not_whitespace, point_not_numeric}
 use Rattle.humantime.proofs.TextWalks.{not_zero}
-use Rattle.humantime.proofs.Spellings.{respelled, spells-append}
+use Rattle.humantime.proofs.Spellings.{each-append, respelled, spells-append, spells_each-append}
 use Rattle.humantime.proofs.Sums.{within_or_beyond}
 use Rattle.humantime.proofs.Outcomes.{items_whole, items_decide_overflow, outcome_accepted, outcome_fault, accepted_spans}
-pub use Rattle.humantime.proofs.Spellings.{each-append, spells_each-append}
 
 -- ==== A text without its whitespace represents the same spans.
 

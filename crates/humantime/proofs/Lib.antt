@@ -1,3 +1,5 @@
+-- The names of the kit that proofs cite most.
+pub mod Prelude
 -- What callers cite.
 pub mod Theorems
 pub mod OnLiterals

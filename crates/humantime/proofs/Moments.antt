@@ -1,8 +1,5 @@
 -- A moment and its parts, and the order of moments.
-use Rattle.std.proofs.Common.{◌≡◌, ℕ, ◌<◌, arith, rules}
-use Rattle.std.specs.Prelude.{ℤ}
-use Rattle.std.specs.Ordering.{nat_cmp, int_cmp, ordering_then}
-use Rattle.std.proofs.lemmas.Int.{ints}
+use Rattle.humantime.proofs.Prelude.{◌≡◌, ℕ, ◌<◌, arith, rules, ℤ, nat_cmp, int_cmp, ordering_then, ints}
 use Rattle.humantime.specs.Values.{moment, second_of, nano_of}
 
 -- A moment is the sum of its parts.

@@ -1,5 +1,5 @@
 -- The definitions that a proof unfolds to compute the result of parsing a literal, or the printed text of a value.
-use Rattle.std.specs.Prelude.{⊤}
+use Rattle.humantime.proofs.Prelude.{⊤}
 use Rattle.std.specs.Fmt.{digits}
 use Rattle.std.specs.Str.{chars, is_utf8}
 use lib.Utf8.{encode}

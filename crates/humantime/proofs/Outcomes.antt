@@ -1,9 +1,5 @@
 -- A text of a duration has exactly one value or one error, which the reference computes.
-use Rattle.std.proofs.lemmas.Grind.{common_steps}
-use Rattle.std.proofs.Common.{◌≡◌, ◌≢◌, ◌⊎◌, ◌↔◌, ℕ, List, [], ◌∷◌, ◌++◌, Option, Some, None, Result, Ok, Err, refl, sym, ◌∙◌, inl, inr, arith, append_assoc, sum_by, IsPermutation, IfErr, chars, option_map, unwrap_or, bytes_eq}
-use Rattle.std.specs.List.{AllByRecursion}
-use Rattle.std.proofs.lemmas.Bool.{cases_Bool}
-use Rattle.std.proofs.lemmas.Slice.Eq.{bytes_eq-Decides}
+use Rattle.humantime.proofs.Prelude.{common_steps, ◌≡◌, ◌≢◌, ◌⊎◌, ◌↔◌, ℕ, List, [], ◌∷◌, ◌++◌, Option, Some, None, Result, Ok, Err, refl, sym, ◌∙◌, inl, inr, arith, append_assoc, sum_by, IsPermutation, IfErr, chars, option_map, unwrap_or, bytes_eq, AllByRecursion, cases_Bool, bytes_eq-Decides}
 use Rattle.std.proofs.lemmas.List.Sorted.{sum_by-IsPermutation}
 use Rattle.humantime.specs.Characters.{bare_zero}
 use Rattle.humantime.specs.Durations.{SpelledSpan, Reads, value, Formed, WithinLimits, Accepted, BareZero, SumOf, total, additions_of}
@@ -16,8 +12,7 @@ use Rattle.humantime.specs.DurationResults.{IsDurationAnswer, duration_answer}
 use Rattle.humantime.proofs.Sums.{spans_summed, within_from-front, within_tells, value-cons}
 use Rattle.humantime.proofs.Characters.{digit_is_numeric}
 use Rattle.humantime.proofs.Spellings.{fine_goes, each-append}
-use Rattle.humantime.proofs.TextWalks.{walk-go, too_large_found, front_walked, split_whole, not_zero}
-pub use Rattle.humantime.proofs.TextWalks.{items_found, items_walked, one_reading}
+use Rattle.humantime.proofs.TextWalks.{front_walked, items_found, items_walked, not_zero, one_reading, split_whole, too_large_found, walk-go}
 
 -- ==== The result of the reference is the value or the fault of the text, and the only one.
 

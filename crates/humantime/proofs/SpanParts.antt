@@ -1,10 +1,5 @@
 -- The parts of a span as they are read: number, fraction, word and end.
-use Rattle.std.proofs.lemmas.Grind.{common_steps}
-use Rattle.std.proofs.Common.{◌≡◌, ◌≤◌, ◌<◌, ◌+◌, ◌-◌, ◌*◌, ℕ, List, [], ◌∷◌, ◌++◌, arith, true, false, chars, drop, get_or, length, IsUtf8, IsCharBoundary, ◌≢◌, ◌^◌, sym, ap, ◌∙◌, length-append, ne_eqb, pow-add}
-use Rattle.std.specs.Char.{digit_value, is_ascii_digit}
-use Rattle.std.specs.Str.Parse.{digits_value_after}
-use Rattle.std.proofs.lemmas.Str.{digit_value_digit, encodes-chars, IsCharBoundary-start}
-use Rattle.std.proofs.lemmas.Bool.Decides.{nat_tests}
+use Rattle.humantime.proofs.Prelude.{common_steps, ◌≡◌, ◌≤◌, ◌<◌, ◌+◌, ◌-◌, ◌*◌, ℕ, List, [], ◌∷◌, ◌++◌, arith, true, false, chars, drop, get_or, length, IsUtf8, IsCharBoundary, ◌≢◌, ◌^◌, sym, ap, ◌∙◌, length-append, ne_eqb, pow-add, digit_value, is_ascii_digit, digits_value_after, digit_value_digit, encodes-chars, IsCharBoundary-start, nat_tests}
 use Rattle.std.proofs.Math.Nat.{one-le-pow, pow-le-pow_right, mul-le-mul_right}
 use Rattle.humantime.specs.Characters.{begins, decimal_value, is_digit, is_numeric}
 use Rattle.humantime.specs.DurationErrors.{number_of, after_number, IsCharStartIn}

@@ -1,8 +1,5 @@
 -- The span at the start of a text, how it is spelled, and the error that stops it.
-use Rattle.std.proofs.Common.{◌==◌, arith, inl, ◌≡◌, ℕ, List, [], ◌∷◌, ◌++◌, sym, append_assoc, append-nil, subst, ◌≢◌, ◌⊎◌, ◌<◌, true, false, length, Option, Some, None, if◌then◌else◌, option_map, unwrap_or, IsSome, Decides}
-use Rattle.std.specs.List.{AllByRecursion}
-use Rattle.std.proofs.lemmas.Grind.{common_steps}
-use Rattle.std.proofs.lemmas.Bool.Decides.{nat_tests}
+use Rattle.humantime.proofs.Prelude.{◌==◌, arith, inl, ◌≡◌, ℕ, List, [], ◌∷◌, ◌++◌, sym, append_assoc, append-nil, subst, ◌≢◌, ◌⊎◌, ◌<◌, true, false, length, Option, Some, None, if◌then◌else◌, option_map, unwrap_or, IsSome, Decides, AllByRecursion, common_steps, nat_tests}
 use Rattle.humantime.specs.Characters.{is_whitespace, is_digit, is_letter, is_numeric, is_point, take_while, drop_while, begins, ends}
 use Rattle.humantime.specs.Durations.{is_some_and, SpelledSpan, HasOnly, Spells, SpellsEach, IsLetters, SpellsFraction, scale_of_word}
 use Rattle.humantime.specs.DurationErrors.{after_fraction, after_number, after_point, after_word, fraction_of, may_follow_span, number_of, span_of, Fault, BeginsSpan, IsStoppedWith, word_of}

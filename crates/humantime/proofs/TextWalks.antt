@@ -1,9 +1,6 @@
 -- The walk over a text finds the one list of spans that the text consists of, and its first error.
 use Rattle.std.proofs.lemmas.List.{length-map}
-use Rattle.std.proofs.Common.{◌==◌, ◌≡◌, ◌≢◌, ℕ, zero, suc, ◌<◌, false, List, [], ◌∷◌, length, Some, None, refl, arith, ◌⊎◌, true, ◌++◌, map, Option, inl, append-nil, sym, ap, length-append, inr, append_assoc}
-use Rattle.std.proofs.lemmas.Bool.Decides.{nat_tests}
-use Rattle.std.proofs.lemmas.Grind.{common_steps}
-use Rattle.std.specs.List.{AllByRecursion}
+use Rattle.humantime.proofs.Prelude.{◌==◌, ◌≡◌, ◌≢◌, ℕ, zero, suc, ◌<◌, false, List, [], ◌∷◌, length, Some, None, refl, arith, ◌⊎◌, true, ◌++◌, map, Option, inl, append-nil, sym, ap, length-append, inr, append_assoc, nat_tests, common_steps, AllByRecursion}
 use Rattle.humantime.specs.DurationErrors.{Fault, OnlyWhitespace, Split, may_follow_span, span_of, NumberOverflow, BeginsSpan, HasFault}
 use Rattle.humantime.specs.Walks.{Walk, walk, walk_from, fault_at, stop_at, items, walk_of}
 use Rattle.humantime.specs.Characters.{begins, ends, drop_while, take_while, is_whitespace, bare_zero, is_digit}

@@ -1,26 +1,15 @@
 -- The theorems that callers cite: the laws over plain variables, each under the name of its function in `laws`, and some others.
-use Rattle.std.proofs.lemmas.Bool.Decides.{nat_tests}
-use Rattle.std.proofs.Common.{rules, ◌≡◌, ℕ, ◌<◌, List, Result, chars, refl, sym, ◌∙◌, arith, true, [], ◌∷◌, ◌+◌, ◌++◌, inl, inr, ◌≤◌, ◌-◌, ◌/◌, ◌^◌, ◌↔◌, Ok, IsTrue, ℤ, pos, negsuc, ◌≤ℤ◌, ◌<ℤ◌, IfSome, nat_cmp, int_cmp, is_le, is_lt}
-use Rattle.std.proofs.lemmas.Slice.Eq.{bytes_eq-Decides}
-use Rattle.std.proofs.lemmas.Grind.{common_steps}
-use Rattle.std.specs.List.{AllByRecursion}
+use Rattle.humantime.proofs.Prelude.{nat_tests, rules, ◌≡◌, ℕ, ◌<◌, List, Result, chars, refl, sym, ◌∙◌, arith, true, [], ◌∷◌, ◌+◌, ◌++◌, inl, inr, ◌≤◌, ◌-◌, ◌/◌, ◌^◌, ◌↔◌, Ok, IsTrue, ℤ, pos, negsuc, ◌≤ℤ◌, ◌<ℤ◌, IfSome, nat_cmp, int_cmp, is_le, is_lt, bytes_eq-Decides, common_steps, AllByRecursion, slice_cmp, ints}
 use Rattle.std.proofs.Math.Nat.{mul-mod_right, div-add-mod}
-use Rattle.std.specs.Cmp.Lexicographic.{slice_cmp}
-use Rattle.std.proofs.lemmas.Int.{ints}
 use Rattle.humantime.specs.Laws.{ExactlyOne, HasOneOutcome, ItemsDecide, ItemsTile, PrintsAndReads, TextsTellApart, IsBounded, IsCanonicalAgain, OlderFormed, older_additions, AcceptedWithZeros, OlderZero, OlderSum, KeepsValueWithZeros, AreReordered, KeepsValueWithoutWhitespace, AddWhenJoined, KeepValueReordered, HasOneTimestamp, IsWeakAndMarked, MomentPrintsAndReads}
-use Rattle.humantime.specs.Items.{AreItems, SpanView}
-use Rattle.humantime.specs.PrintedDurations.{IsCanonicalText}
+use Rattle.humantime.specs.Prelude.{AreItems, SpanView, IsCanonicalText, duration_end, Fault, NumberOverflow, result_view, fault_of, IsWeak, IsStrict, weak_checks, strict_checks, MomentToPrint, cut, IsPrinted, IsPrintedWith, IsPrintable, printed_text, weak_answer, strict_answer}
 use Rattle.humantime.specs.declared.duration.error.DurationError.{DurationError}
-use Rattle.humantime.specs.Values.{duration_end}
-use Rattle.humantime.specs.DurationErrors.{Fault, NumberOverflow, result_view, fault_of}
 use Rattle.humantime.specs.DurationResults.{item_views, duration_text, duration_answer, canonical_answer}
 use Rattle.humantime.specs.Durations.{SpelledSpan, additions, Formed, fits, Accepted, BareZero, SumOf}
-use Rattle.humantime.specs.Timestamps.{IsWeak, IsStrict, weak_checks, strict_checks, MomentToPrint, cut, IsPrinted, IsPrintedWith, IsPrintable}
-use Rattle.humantime.specs.TimestampResults.{printed_text, weak_answer, strict_answer}
 use Rattle.humantime.proofs.Items.{are_items, first_error_answers, front_tiled, one_span_view, text_tiled}
-use Rattle.humantime.proofs.Outcomes.{accepted_from_outcome, answer_accepts, answer_faults, exactly_one_outcome, items_decide_fault, items_decide_overflow, items_decide_value, one_list_of_items, one_reading, outcome_accepted, outcome_fault, reordered_value, zero_or_spans}
+use Rattle.humantime.proofs.Outcomes.{accepted_from_outcome, answer_accepts, answer_faults, exactly_one_outcome, items_decide_fault, items_decide_overflow, items_decide_value, one_list_of_items, outcome_accepted, outcome_fault, reordered_value, zero_or_spans}
 use Rattle.humantime.proofs.Characters.{significant_shorter, whole_part_kept, amount_kept}
-use Rattle.humantime.proofs.TextWalks.{not_zero}
+use Rattle.humantime.proofs.TextWalks.{not_zero, one_reading}
 pub use Rattle.humantime.proofs.PrintedTimestamps.{printed_some, stamps_in_order, weak_printable, strict_printable, places_of_bound}
 use Rattle.humantime.proofs.PrintedTimestamps.{text_displayed, printed_reads, one_text}
 pub use Rattle.humantime.proofs.Dates.{one_date, day_at_most}

@@ -1,11 +1,7 @@
 -- The unit of a word by its bytes.
-use Rattle.std.proofs.lemmas.Bool.Decides.{nat_tests}
-use Rattle.std.proofs.Common.{ltb, ◌+◌, ◌≡◌, ◌≤◌, ◌∙◌, ap, refl, ℕ, suc, Bool, true, ◌&&◌, List, [], ◌∷◌, ◌++◌, length, get_or, Option, Some, None, chars, arith, ◌==◌, bytes_eq, if◌then◌else◌, IsUtf8}
-use Rattle.std.specs.Prelude.{⊤}
-use Rattle.std.specs.List.{list_all}
+use Rattle.humantime.proofs.Prelude.{nat_tests, ltb, ◌+◌, ◌≡◌, ◌≤◌, ◌∙◌, ap, refl, ℕ, suc, Bool, true, ◌&&◌, List, [], ◌∷◌, ◌++◌, length, get_or, Option, Some, None, chars, arith, ◌==◌, bytes_eq, if◌then◌else◌, IsUtf8, ⊤, list_all, and_parts}
 use Rattle.std.specs.Map.{lookup}
 use Rattle.std.proofs.Math.Utf8.{encode, encodes, scalars}
-use Rattle.std.proofs.lemmas.Bool.{and_parts}
 use Rattle.std.proofs.lemmas.Slice.Eq.{HasBytesAt, bytes_eq-Decides, text_from_reads}
 use Rattle.std.proofs.lemmas.Str.{chars-encodes, encodes-chars}
 use Rattle.humantime.specs.Characters.{micro_sign, greek_mu}

@@ -10,11 +10,9 @@ pub use Rattle.humantime.specs.Laws.{IsDateOfDay}
 pub use Rattle.humantime.specs.Characters.{bare_zero}
 pub use Rattle.humantime.specs.DurationErrors.{result_view, text_result_view, fault_of, PointsInto, IsCharStartIn, IsRangeIn, IsPartOf, fault_message, unit_message, place_of}
 pub use Rattle.humantime.specs.DurationResults.{IsDurationAnswer, duration_answer, canonical_answer, duration_text}
-pub use Rattle.humantime.specs.Durations.{Accepted, BareZero, SumOf, value, additions, WithinLimits, AllHaveRoom}
-pub use Rattle.humantime.specs.Durations.{SpelledSpan, Reads}
+pub use Rattle.humantime.specs.Durations.{Accepted, BareZero, SumOf, value, additions, WithinLimits, AllHaveRoom, SpelledSpan, Reads}
 pub use Rattle.humantime.specs.DurationErrors.{Fault, InvalidCharacter, NumberExpected, UnknownUnit, NumberOverflow, Empty, HasFault}
-pub use Rattle.humantime.specs.Laws.{without_whitespace, AreReordered}
-pub use Rattle.humantime.specs.Laws.{AcceptedWithZeros, older_additions}
+pub use Rattle.humantime.specs.Laws.{without_whitespace, AreReordered, AcceptedWithZeros, older_additions}
 -- The items of a text.
 pub use Rattle.humantime.specs.Items.{Items, SpanView, AreItems}
 pub use Rattle.humantime.specs.Laws.{slices_of, IsTiled}
@@ -22,8 +20,7 @@ pub use Rattle.humantime.specs.SpanResults.{span_view, items_left, text_of, Give
 -- Printing durations.
 pub use Rattle.humantime.specs.PrintedDurations.{AreCounts, IsCanonicalText, IsCanonicalOf}
 -- Parsing timestamps.
-pub use Rattle.humantime.specs.Timestamps.{Fields, IsWeak, IsStrict, IsWeakMoment, IsStrictMoment}
-pub use Rattle.humantime.specs.Timestamps.{weak_checks, strict_checks, first_failed, timestamp_message}
+pub use Rattle.humantime.specs.Timestamps.{Fields, IsWeak, IsStrict, IsWeakMoment, IsStrictMoment, weak_checks, strict_checks, first_failed, timestamp_message}
 pub use Rattle.humantime.specs.TimestampResults.{weak_answer, strict_answer, IsWeakAnswer, IsStrictAnswer, moment_text, printed_text, shortest_text, DisplaysMoment}
 -- Printing timestamps.
 pub use Rattle.humantime.specs.Timestamps.{MomentToPrint, places_of, cut, IsPrinted, IsPrintedWith, IsPrintable}

@@ -12,15 +12,13 @@ use Rattle.humantime.specs.declared.duration.span.Span.{Span}
 use Rattle.humantime.specs.Characters.{begins, take_while, decimal_value, is_digit, is_numeric, is_whitespace, u64_max}
 use Rattle.humantime.specs.Durations.{SpelledSpan, has_too_many_digits, too_long, Quantity, Nanos, Seconds, Scale, words, size, of_kind, is_whole_part}
 use Rattle.humantime.specs.DurationErrors.{fault_of, number_of, after_number, after_point, after_fraction, after_word, span_of, may_follow_span, Fault}
-use Rattle.humantime.specs.Items.{SpanView}
+use Rattle.humantime.specs.Prelude.{IsDate, SpanView, day_of, span_view}
 use Rattle.humantime.specs.DurationResults.{spelled, view_at}
-use Rattle.humantime.specs.SpanResults.{span_view}
 use Rattle.humantime.specs.Walks.{fault_at, has_bare_point, add}
 use Rattle.humantime.specs.PrivateTypes.{counted, IsTail}
 use Rattle.humantime.specs.declared.calendar.Date.{Date}
 use Rattle.humantime.specs.declared.date.error.TimestampError.{TimestampError}
 use Rattle.humantime.specs.declared.date.error.TimestampError.TheVariants.{InvalidDigit, InvalidFormat}
-use Rattle.humantime.specs.Calendar.{IsDate, day_of}
 use Rattle.humantime.specs.Values.{seconds_per_day, second_of}
 use Rattle.humantime.specs.declared.date.parse.DateTime.{DateTime}
 use Rattle.humantime.specs.Timestamps.{DateAndTime, fraction_nanos, has_punctuation, has_digits, has_point}

@@ -5,8 +5,7 @@
 
 ghost use Rattle.std.specs.Prelude.{◌≤◌, chars, ◌≡◌, ◌++◌, ◌↔◌, ◌<ℤ◌, ℕ, List, IsTrue};
 ghost use Rattle.humantime.specs.declared.calendar.Date.{Date};
-ghost use Rattle.humantime.specs.Prelude.{ExactlyOne, IsDateOfDay, IsPrinted, IsStrict, IsWeak, strict_answer, strict_checks, weak_answer};
-ghost use Rattle.humantime.specs.Prelude.{weak_checks};
+ghost use Rattle.humantime.specs.Prelude.{ExactlyOne, IsDateOfDay, IsPrinted, IsStrict, IsWeak, strict_answer, strict_checks, weak_answer, weak_checks};
 ghost use Rattle.humantime.specs.Laws.{HasOneOutcome, ItemsDecide, ItemsTile, KeepsValueWithZeros, AddWhenJoined, KeepValueReordered};
 ghost use Rattle.humantime.specs.Laws.{KeepsValueWithoutWhitespace, IsBounded, IsCanonicalAgain, TextsTellApart, PrintsAndReads};
 ghost use Rattle.humantime.specs.Laws.{PrintInOrder, HasOneTimestamp, MomentPrintsAndReads, IsWeakAndMarked};

@@ -6,9 +6,8 @@ ghost use Rattle.std.specs.Str.{IsUtf8};
 ghost use Rattle.std.proofs.Props.{props};
 ghost use Rattle.std.specs.Borrow.{sem};
 ghost use Rattle.std.specs.Result.{result_map_both};
-ghost use Rattle.humantime.specs.DurationErrors.{fault_of};
 ghost use Rattle.humantime.specs.Prelude.{Fault, HasFault, IsCanonicalOf, IsCanonicalText, KeptAtErr, PointsInto, canonical_answer};
-ghost use Rattle.humantime.specs.Prelude.{duration_answer, duration_end, duration_text, text_result_view};
+ghost use Rattle.humantime.specs.Prelude.{duration_answer, duration_end, duration_text, fault_of, text_result_view};
 
 use crate::buffer::str_prefix;
 use crate::duration::error::DurationError;

@@ -1,7 +1,4 @@
-use Rattle.std.proofs.lemmas.Bool.Decides.{nat_tests}
-use Rattle.std.proofs.lemmas.Grind.{common_steps}
-use Rattle.std.proofs.lemmas.Str.{IsCharBoundary-start}
-use Rattle.std.proofs.Common.{◌≡◌, ◌+◌, ◌++◌, ◌∷◌, [], get_or, chars, drop, false, arith, length-append, append-nil, append_assoc}
+use Rattle.humantime.proofs.Prelude.{nat_tests, common_steps, IsCharBoundary-start, ◌≡◌, ◌+◌, ◌++◌, ◌∷◌, [], get_or, chars, drop, false, arith, length-append, append-nil, append_assoc}
 use Rattle.humantime.specs.Characters.{begins, is_numeric, without_trailing_zeros}
 use Rattle.humantime.specs.DurationErrors.{number_of}
 use Rattle.humantime.proofs.SpanParts.{read_digit, read_whitespace, stops_here}

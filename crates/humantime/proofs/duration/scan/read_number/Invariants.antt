@@ -1,5 +1,4 @@
-use Rattle.std.proofs.Common.{◌≡◌, ◌≤◌, ◌-◌, chars, drop, length, IsCharBoundary}
-use Rattle.std.specs.Str.Parse.{digits_value_after}
+use Rattle.humantime.proofs.Prelude.{◌≡◌, ◌≤◌, ◌-◌, chars, drop, length, IsCharBoundary, digits_value_after}
 use Rattle.humantime.specs.Characters.{decimal_value, u64_max}
 use Rattle.humantime.specs.DurationErrors.{number_of, after_number}
 use Rattle.humantime.proofs.duration.scan.read_number.Given as goal

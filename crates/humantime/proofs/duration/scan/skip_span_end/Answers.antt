@@ -1,5 +1,4 @@
-use Rattle.std.proofs.lemmas.Grind.{common_steps}
-use Rattle.std.proofs.Common.{arith}
+use Rattle.humantime.proofs.Prelude.{common_steps, arith}
 use Rattle.humantime.proofs.Offsets.{whitespace_ends}
 use Rattle.humantime.proofs.Characters.{digit_is_numeric, digit_not_whitespace}
 use Rattle.humantime.proofs.duration.scan.skip_span_end.Goals as goal
