@@ -1,12 +1,14 @@
--- Lemmas about the output for the results of the library, and the uniqueness of the answer.
-use Rattle.std.proofs.Common.{◌≡◌, ◌≢◌, ◌↔◌, ℕ, List, [], ◌∷◌, length, ap, sym, ◌∙◌, refl, arith}
-use Rattle.std.specs.Prelude.{ℤ, None, Some, Result, Ok, Err, chars, codes, IsSome, IfOk, unwrap_or, if◌then◌else◌, ◌==◌}
-use Rattle.std.specs.Result.{result_map_both}
+-- Lemmas about the output for the results of the library, the uniqueness of the answer, and the end of the program.
+use Rattle.std.proofs.Common.{◌≡◌, ◌≢◌, ◌↔◌, ℕ, List, [], ◌∷◌, length, ap, sym, ◌∙◌, refl, arith, ℤ, None, Some, Result, Ok, Err, chars, codes, IsSome, IfOk, unwrap_or, if◌then◌else◌, ◌==◌, inl, inr, Option}
+use Rattle.std.proofs.KnownBytes.{Appends-nil, Appends-kept, Keeps-refl, Keeps-trans}
+use Rattle.std.specs.Io.KnownBytes.{Keeps}
+use Rattle.std.specs.Result.{result_and, result_map_both, result_unwrap_or}
 use Rattle.humantime.specs.declared.date.error.TimestampError.{TimestampError}
 use Rattle.humantime.specs.declared.duration.error.DurationError.{DurationError}
 use Rattle.humantime.specs.Prelude.{IsDurationAnswer, IsPrintable, duration_text, fault_of, fault_message, timestamp_message, canonical_answer, strict_answer, weak_answer, places_of, shortest_text}
 use Rattle.humantime.proofs.Theorems.{canonical_again, printed_is_canon, printed_some, one_stamp_outcome, printed_moment_reads, places_of_bound, strict_printable, weak_printable}
-use Rattle.humantime_cli.specs.Answers.{Answers, OneAnswer, IsOutputOf, IsMomentOutput, Command, Duration, Strict, Weak}
+use Rattle.humantime_cli.specs.Answers.{Answer, Answers, OneAnswer, IsOutputOf, IsMomentOutput, Command, Duration, Strict, Weak, Streams, streams, EndsWith, Whole, Cut, outcome}
+use Rattle.humantime_cli.specs.Writes.{Writes, line}
 
 -- The text of the moment that was parsed, or the message of its error.
 abbrev pub moment_written : Result ℤ TimestampError → Result (List ℕ) (List ℕ)
@@ -69,3 +71,25 @@ one_answer words (Some told) (Some other) answers also = ap Some (answer_of_word
 one_answer words (Some told) None (name, command, text, same, tells) none = absurd (none name command text same)
 one_answer words None (Some told) none (name, command, text, same, tells) = absurd (none name command text same)
 one_answer words None None none also = refl
+
+-- ==== The end of the program, by what one write accepted.
+
+-- The line was written to standard output.
+pub to_out : {T E : Type 0} (written : Result T E) {ended : Result ℕ E} {text : List ℕ} {old new : Option (List ℕ)} (err : Option (List ℕ)) → Writes written old new (line text)
+    → ended ≡ result_and written (Ok 0) → EndsWith (Some (Ok text)) (result_unwrap_or ended 3) (streams old err) (streams new err)
+unfolding Writes
+to_out (Ok _) err wrote and = rw and (Whole refl wrote (Appends-nil err))
+to_out (Err e) err wrote and = rw and (Cut refl (inl (wrote, Keeps-refl err)))
+
+-- The line was written to standard error.
+pub to_err : {T E : Type 0} (written : Result T E) (answer : Answer) {ended : Result ℕ E} (out : Option (List ℕ)) {old new : Option (List ℕ)} → (outcome answer).1 ≡ []
+    → Writes written old new (outcome answer).2 → ended ≡ result_and written (Ok (outcome answer).0) → EndsWith answer (result_unwrap_or ended 3) (streams out old) (streams out new)
+unfolding Writes
+to_err (Ok _) answer out none wrote and = rw and (Whole refl (rw none (Appends-nil out)) wrote)
+to_err (Err e) answer out none wrote and = rw and (Cut refl (inr (Keeps-refl out, wrote)))
+
+-- Flushing standard output keeps what was written.
+pub flushed : {answer : Answer} {status : ℕ} {old mid : Streams} {new : Option (List ℕ)} → EndsWith answer status old mid → Keeps mid.out new → EndsWith answer status old (streams new mid.err)
+flushed (Whole same taken told) kept = Whole same (Appends-kept _ _ _ _ taken kept) told
+flushed (Cut three (inl ((n, before, taken), same))) kept = Cut three (inl ((n, before, Appends-kept _ _ _ _ taken kept), same))
+flushed (Cut three (inr (same, front))) kept = Cut three (inr (Keeps-trans _ _ _ same kept, front))

@@ -1,3 +1,3 @@
 pub mod AnswerLemmas
-pub mod EndsLemmas
 pub mod PieceLemmas
+pub mod RunFacts

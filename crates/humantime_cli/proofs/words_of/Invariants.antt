@@ -1,5 +1,4 @@
-use Rattle.std.proofs.Common.{◌≡◌, map, take}
-use Rattle.std.specs.Prelude.{string_bytes}
+use Rattle.std.proofs.Common.{◌≡◌, map, take, string_bytes}
 use Rattle.humantime_cli.specs.Answers.{texts}
 use Rattle.humantime_cli.proofs.words_of.Given as goal
 

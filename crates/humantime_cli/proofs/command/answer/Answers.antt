@@ -1,10 +1,8 @@
-use Rattle.std.proofs.Common.{arith, refl, ◌≡◌}
+use Rattle.std.proofs.Common.{arith, refl, ◌≡◌, None}
 use Rattle.std.proofs.lemmas.Grind.{common_steps}
-use Rattle.std.specs.Prelude.{None}
 use Rattle.humantime.proofs.Theorems.{weak_printable, strict_printable}
 use Rattle.humantime_cli.specs.Answers.{Duration, Strict, Weak, Answers, texts}
-use Rattle.humantime_cli.proofs.AnswerLemmas.{has_text, tells_duration, tells_moment, not_two, unnamed}
-use Rattle.humantime_cli.proofs.EndsLemmas.{to_err}
+use Rattle.humantime_cli.proofs.AnswerLemmas.{has_text, tells_duration, tells_moment, not_two, unnamed, to_err}
 use Rattle.humantime_cli.proofs.command.answer.Goals as goal
 
 pub write_result-requires-in-strict-clause-value : goal.write_result-requires-in-strict-clause-value

@@ -1,6 +1,5 @@
-use Rattle.std.proofs.Common.{refl}
-use Rattle.std.specs.Prelude.{Some, Err}
-use Rattle.humantime_cli.proofs.EndsLemmas.{to_out, to_err}
+use Rattle.std.proofs.Common.{refl, Some, Err}
+use Rattle.humantime_cli.proofs.AnswerLemmas.{to_out, to_err}
 use Rattle.humantime_cli.proofs.command.write_result.Goals as goal
 
 pub returns-in-Ok : goal.returns-in-Ok

@@ -1,4 +1,4 @@
-use Rattle.humantime_cli.proofs.command.callers.RunFacts.{fault_printed, fault_cut}
+use Rattle.humantime_cli.proofs.RunFacts.{fault_printed, fault_cut}
 use Rattle.humantime_cli.proofs.command.callers.explain_fault.Goals as goal
 
 pub returns-clause-whole : goal.returns-clause-whole

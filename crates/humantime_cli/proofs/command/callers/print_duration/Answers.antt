@@ -1,4 +1,4 @@
-use Rattle.humantime_cli.proofs.command.callers.RunFacts.{printed_whole, printed_cut}
+use Rattle.humantime_cli.proofs.RunFacts.{printed_whole, printed_cut}
 use Rattle.humantime_cli.proofs.command.callers.print_duration.Goals as goal
 
 pub returns-clause-whole : goal.returns-clause-whole

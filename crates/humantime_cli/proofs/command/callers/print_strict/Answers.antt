@@ -1,4 +1,4 @@
-use Rattle.humantime_cli.proofs.command.callers.RunFacts.{strict_printed}
+use Rattle.humantime_cli.proofs.RunFacts.{strict_printed}
 use Rattle.humantime_cli.proofs.command.callers.print_strict.Goals as goal
 
 pub returns : goal.returns

@@ -1,2 +1,0 @@
--- What the callers of `run` conclude from its contract.
-pub mod RunFacts
