@@ -77,15 +77,10 @@ any_limits : (spans : List SpelledSpan) → WithinLimits spans
     ↔ (AllByRecursion Formed spans × AllByRecursion (λ s. fits s ≡ true) spans × AllHaveRoom (additions spans))
 any_limits spans = (λ w. (w.formed, w.fit, w.room), λ h. record { formed = h.0; fit = h.1; room = h.2 })
 
-any_spans : (text : List ℕ) (spans : List SpelledSpan) → Reads text spans → WithinLimits spans → Accepted text (value spans)
-any_spans text spans reads within = SumOf spans reads within refl
-
-zero : Accepted (codes "0") 0 × AcceptedWithZeros (codes "0") 0
-zero = (BareZero refl refl, OlderZero refl refl)
-
-any_spans_add : (s : SpelledSpan) (spans : List SpelledSpan) → (additions (s ∷ spans) ≡ additions_of s ++ additions spans)
-    × (value spans ≡ sum_by quantity_nanos (additions spans))
-any_spans_add s spans = (refl, refl)
+any_spans : (text : List ℕ) (s : SpelledSpan) (spans : List SpelledSpan) → (additions (s ∷ spans) ≡ additions_of s ++ additions spans)
+    × (value spans ≡ sum_by quantity_nanos (additions spans)) × (Reads text spans → WithinLimits spans → Accepted text (value spans))
+    × Accepted (codes "0") 0 × AcceptedWithZeros (codes "0") 0
+any_spans text s spans = (refl, refl, λ reads within. SumOf spans reads within refl, BareZero refl refl, OlderZero refl refl)
 
 -- ---- while trailing zeros of a fraction counted
 
@@ -127,21 +122,18 @@ plural : (n : ℕ) (unit : List ℕ) → (printed_count n (unit, true) ≡ decim
 plural n unit = (refl, refl)
 
 -- A text has the counts that are not zero, joined with single spaces.
-any_count : (c : ℕ) (x : Suffix) (counts : List ℕ) (ends : List Suffix) → (printed_counts (0 ∷ counts) (x ∷ ends) ≡ printed_counts counts ends)
+any_count : (c : ℕ) (x : Suffix) (counts : List ℕ) (ends : List Suffix) (a b : List ℕ) (others : List (List ℕ))
+    → (printed_counts (0 ∷ counts) (x ∷ ends) ≡ printed_counts counts ends)
     × (nat_lt 0 c ≡ true → printed_counts (c ∷ counts) (x ∷ ends) ≡ printed_count c x ∷ printed_counts counts ends)
-any_count c x counts ends = (refl, λ some. rw some refl)
-
-space : (a b : List ℕ) (others : List (List ℕ)) → (joined_by_space [] ≡ codes "0s") × (joined_by_space (a ∷ []) ≡ a)
+    × (joined_by_space [] ≡ codes "0s") × (joined_by_space (a ∷ []) ≡ a)
     × (joined_by_space (a ∷ b ∷ others) ≡ a ++ byte " " ∷ joined_by_space (b ∷ others))
-space a b others = (refl, refl, refl)
+any_count c x counts ends a b others = (refl, λ some. rw some refl, refl, refl, refl)
 
 -- The counts come by division, from years to nanoseconds.
-by_division : (w d : ℕ) (ws : List ℕ) → divided (w ∷ ws) d ≡ d / w ∷ divided ws (d % w)
-by_division w d ws = refl
-
-any_text : (d : ℕ) → duration_text d ≡ joined_by_space (printed_counts (divided weights d) suffixes)
+any_text : (w d : ℕ) (ws : List ℕ) → (divided (w ∷ ws) d ≡ d / w ∷ divided ws (d % w))
+    × (duration_text d ≡ joined_by_space (printed_counts (divided weights d) suffixes))
 unfolding duration_text
-any_text d = refl
+any_text w d ws = (refl, refl)
 
 nine_units :
     zip weights suffixes

@@ -105,15 +105,11 @@ any_moment f = refl
 
 -- ---- printing; `negsuc n` is n + 1 nanoseconds before 1970
 
--- `format_rfc3339` prints no digits if the nanoseconds are zero, and otherwise nine.
-any_places : (n : ℕ) → (places_of (pos n) ≡ (if n % 1_000_000_000 == 0 then 0 else 9))
+-- `format_rfc3339` prints no digits if the nanoseconds are zero, and otherwise nine. A moment is rounded down, also before 1970.
+any_cut : (n k : ℕ) → (places_of (pos n) ≡ (if n % 1_000_000_000 == 0 then 0 else 9))
     × (places_of (negsuc n) ≡ (if (n + 1) % 1_000_000_000 == 0 then 0 else 9))
-any_places n = (refl, grind (arith, nat_tests))
-
--- A moment is rounded down, also before 1970.
-any_cut : (n k : ℕ) → (cut (pos n) k ≡ pos (n - n % 10 ^ (9 - k)))
-    × (cut (negsuc n) k ≡ negsuc (n + (10 ^ (9 - k) - 1 - n % 10 ^ (9 - k))))
-any_cut n k = (grind (arith, ints), grind (arith, ints))
+    × (cut (pos n) k ≡ pos (n - n % 10 ^ (9 - k))) × (cut (negsuc n) k ≡ negsuc (n + (10 ^ (9 - k) - 1 - n % 10 ^ (9 - k))))
+any_cut n k = (refl, grind (arith, nat_tests), grind (arith, ints), grind (arith, ints))
 
 -- Nothing else is asked of a printed text.
 printed_form : (t : ℤ) (k : ℕ) (text : List ℕ)
@@ -126,12 +122,10 @@ printed_form t k text = (
   λ h. record { few = h.0; fields = h.1.0; weak = h.1.1; separator = h.1.2; zone = h.1.3; second = h.1.4; places = h.1.5; moment = h.1.6 },
 )
 
--- Its moment is represented in both forms.
-both_forms : (text : List ℕ) (t : ℤ) → ReadsAs text t ↔ (IsStrictMoment text t × IsWeakMoment text t)
-both_forms text t = (λ r. (r.strict, r.weak), λ h. record { strict = h.0; weak = h.1 })
-
-printable : (t : ℤ) → IsPrintable t ↔ ((pos 0 ≤ℤ t) × (t <ℤ pos 253_402_300_800_000_000_000))
-printable t = (λ h. h, λ h. h)
+-- Its moment is represented in both forms, from 1970 to 9999.
+any_printed : (text : List ℕ) (t : ℤ) → (ReadsAs text t ↔ (IsStrictMoment text t × IsWeakMoment text t))
+    × (IsPrintable t ↔ ((pos 0 ≤ℤ t) × (t <ℤ pos 253_402_300_800_000_000_000)))
+any_printed text t = ((λ r. (r.strict, r.weak), λ h. record { strict = h.0; weak = h.1 }), (λ h. h, λ h. h))
 
 -- ---- runs of a job, one or more whole periods after the last one, and not before now
 
