@@ -81,8 +81,9 @@ def entry(item, found):
             is_short = len(known) == 1 and known[0].endswith(";") and len(other.head + known[0]) <= 120
             made += said(other.docs) + ([f"{other.head} {{ {known[0].strip()} }}"] if is_short else [other.head, *known])
         elif other.kind in ("const", "fn") and (other.is_public and other.owner or other.trait) == item.name:
-            docs = next(part.docs for part in found if part.name == other.name and part.docs and part.owner in (item.name, other.owner))
-            made += [*said(docs), declared(other).replace(f"{other.kind} ", f"{other.kind} {other.owner}::", 1)]
+            same = [other] + [part for part in found if part.name == other.name and part.owner in (item.name, other.owner)]
+            head = declared(next((part for part in same if "ensures" in part.head), other))
+            made += [*said(next(part.docs for part in same if part.docs)), head.replace(f"{other.kind} ", f"{other.kind} {other.owner}::", 1)]
     return "\n".join(made)
 
 
