@@ -20,11 +20,10 @@ pub(crate) fn write_call<W: Write>(f: &mut Formatter<W>, row: Row<'_>) -> Option
         "spans" => durations::split(f, text),
         "message" => write_message(f, parse_duration(text).err()?, row.wanted, 5),
         "strict" => write!(f, "{:?}", parse_rfc3339(text).map(|at| moment_parts(at))),
-        "weak" => write!(
-            f,
-            "{:?}",
-            parse_rfc3339_weak(text).map(|at| moment_parts(at))
-        ),
+        "weak" => {
+            let read = parse_rfc3339_weak(text).map(|at| moment_parts(at));
+            write!(f, "{read:?}")
+        }
         "refusal" => write_message(f, parse_rfc3339_weak(text).err()?, row.wanted, 1),
         "Duration::from_str" => match Duration::from_str(text) {
             Ok(value) => write!(f, "Ok({:?}), {value}", parts(*value.as_ref())),
@@ -50,11 +49,8 @@ fn write_numbered<W: Write>(
         "day" => write!(f, "{:?}", day_number(date(numbers)?, &mut Turns::new())),
         "date" => {
             let date = date_of_day(number(numbers)?, &mut Turns::new());
-            write!(
-                f,
-                "{:?}",
-                date.map(|date| (date.year, date.month, date.day))
-            )
+            let parts = date.map(|date| (date.year, date.month, date.day));
+            write!(f, "{parts:?}")
         }
         "UNIX_EPOCH" => write!(f, "{:?}", moment_parts(UNIX_EPOCH)),
         "SystemTime::from_parts" => {

@@ -35,31 +35,19 @@ pub fn is_written<D: Display + Drop>(value: D, text: &str, most: u32) -> bool {
     }
 }
 
+/// Compares whether a value is written as a string, in at most so many writes, with each of some formats.
+macro_rules! compare_each {
+    ($value:ident, $text:ident, $most:ident, $($format:literal)+) => {
+        $(agree($format, is_written(format_args!($format, $value), $text, $most))?;)+
+    };
+}
+
 /// Compares whether the value is written as this string in at most `most` writes with any format, and stops at the first write that fails.
 pub(crate) fn compare_formats<T: Display>(value: &T, text: &str, most: u32) -> Compared {
     agree("a writer that fails", refused_requests(value) == 1)?;
-    compare("{}", format_args!("{value}"), text, most)?;
-    compare("{:>80}", format_args!("{value:>80}"), text, most)?;
-    compare("{:*<200}", format_args!("{value:*<200}"), text, most)?;
-    compare("{:.3}", format_args!("{value:.3}"), text, most)?;
-    compare("{:+}", format_args!("{value:+}"), text, most)?;
-    compare("{:#}", format_args!("{value:#}"), text, most)?;
-    compare("{:030}", format_args!("{value:030}"), text, most)?;
-    compare("{:5}", format_args!("{value:5}"), text, most)?;
-    compare("{:.0}", format_args!("{value:.0}"), text, most)?;
-    compare("{:^90}", format_args!("{value:^90}"), text, most)?;
-    compare("{:é^90.12}", format_args!("{value:é^90.12}"), text, most)?;
-    compare(
-        "{:µ^+#0400.3}",
-        format_args!("{value:µ^+#0400.3}"),
-        text,
-        most,
-    )
-}
-
-/// Compares whether the value is written as this string, in at most `most` writes, with the format of this name.
-fn compare<D: Display + Drop>(name: &'static str, value: D, text: &str, most: u32) -> Compared {
-    agree(name, is_written(value, text, most))
+    compare_each!(value, text, most, "{}" "{:>80}" "{:*<200}" "{:.3}" "{:+}" "{:#}" "{:030}" "{:5}");
+    compare_each!(value, text, most, "{:.0}" "{:^90}" "{:é^90.12}" "{:µ^+#0400.3}");
+    Ok(())
 }
 
 /// Returns the number of writes that `Display` makes to a writer that always fails, or `u32::MAX` if it returns `Ok`.
