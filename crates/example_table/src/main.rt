@@ -55,7 +55,10 @@ pub fn run(
             Err(wrong) => {
                 let carets = carets_of(line, wrong);
                 let number = index + 1;
-                writeln!(err, "example_table: line {number}: {wrong}\n{line}\n{carets}")?;
+                writeln!(
+                    err,
+                    "example_table: line {number}: {wrong}\n{line}\n{carets}"
+                )?;
                 return Ok(2);
             }
         }
