@@ -180,8 +180,8 @@ const LONG_ESCAPED: usize = 3000;
 
 /// Writes the message. An error at a position begins with its line and column, and ends with the line and a caret line: `^` under each
 /// column of what is wrong, or one where only the position is known. Of a line with over 500 bytes, what is around the position is written,
-/// with dots where it is cut. A character that controls a terminal or the direction of its text, but for a tab, is written as an escape
-/// such as `\u{1b}`.
+/// with dots where it is cut. A character that controls a terminal or the direction of its text, or ends a line or a paragraph (U+2028 and
+/// U+2029), but for a tab, is written as an escape such as `\u{1b}`.
 ///
 /// # Examples
 ///
@@ -262,7 +262,8 @@ impl fmt::Display for Escaped<'_> {
     }
 }
 
-/// Returns `true` for a character that controls a terminal, except for a tab, or the direction of its text.
+/// Returns `true` for a character that controls a terminal, except for a tab, or the direction of its text, and for the ends of a line and of
+/// a paragraph, U+2028 and U+2029.
 fn is_hidden(c: char) -> bool {
     match c {
         '\t' => false,
