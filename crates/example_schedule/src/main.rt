@@ -105,8 +105,25 @@ fn write_next(out: &mut impl Write, job: Job<'_>, now: SystemTime) -> io::Result
     }
 }
 
-/// Writes the next run of each job in an input, the errors of the other lines, and the delays. Returns the exit status.
+/// Writes what [`write_runs`] writes for the words FILE, NOW and RETRY, and what the file contains, or what is wrong with them. Returns the
+/// exit status.
 pub fn run(
+    words: &[String],
+    file: io::Result<String>,
+    out: &mut impl Write,
+    err: &mut impl Write,
+) -> io::Result<u8> {
+    let [path, now, retry] = words else {
+        return writeln!(err, "usage: schedule FILE NOW RETRY").map(|()| 2);
+    };
+    match file {
+        Ok(text) => write_runs(&text, now, retry, out, err),
+        Err(error) => writeln!(err, "{path}: {error}").map(|()| 1),
+    }
+}
+
+/// Writes the next run of each job in an input, the errors of the other lines, and the delays. Returns the exit status.
+fn write_runs(
     text: &str,
     now: &str,
     retry: &str,
@@ -136,17 +153,10 @@ pub fn run(
 
 fn main(rt: HostRuntime) -> io::Result<ExitCode> {
     let words = env::args(&rt)?.skip(1).collect::<Vec<String>>(rt.alloc())?;
-    let [path, now, retry] = words.as_slice() else {
-        eprintln!(rt; "usage: schedule FILE NOW RETRY")?;
-        return Ok(ExitCode::from(2));
+    let file = match words.first() {
+        Some(path) => fs::read_to_string(&rt, path.as_str()),
+        None => Ok(String::new(rt.alloc())),
     };
-    let text = match fs::read_to_string(&rt, path.as_str()) {
-        Ok(text) => text,
-        Err(error) => {
-            eprintln!(rt; "{path}: {error}")?;
-            return Ok(ExitCode::FAILURE);
-        }
-    };
-    let status = run(&text, now, retry, &mut rt.stdout(), &mut rt.stderr())?;
+    let status = run(&words, file, &mut rt.stdout(), &mut rt.stderr())?;
     Ok(ExitCode::from(status))
 }

@@ -2,10 +2,36 @@
 #![tactic(auto)]
 
 use example_schedule::run;
+use std::alloc::{AllocError, Global};
+use std::io;
 use std::test::Fail;
 
 const NOW: &str = "2018-02-16T09:00:00Z";
 const DELAYS: &str = "after failure 1: again in 1m\nafter failure 2: again in 3m\nafter failure 3: again in 5m\nafter failure 4: again in 5m\nafter failure 5: again in 5m\n";
+
+fn words_of(alloc: Global, words: &[&str]) -> Result<Vec<String>, AllocError> {
+    let mut strings = Vec::new(alloc);
+    for word in words {
+        strings.push(String::from_str(alloc, word)?)?;
+    }
+    Ok(strings)
+}
+
+#[test]
+fn wrong_words_and_a_file_that_is_not_read_are_errors(rt: HostRuntime) -> Result<(), Fail> {
+    for (words, status, message) in &[
+        ([].as_slice(), 2, "usage: schedule FILE NOW RETRY\n"),
+        (["jobs.txt", NOW].as_slice(), 2, "usage: schedule FILE NOW RETRY\n"),
+        (["jobs.txt", NOW, "1min..5min x3"].as_slice(), 1, "jobs.txt: entity not found\n"),
+    ] {
+        let (mut out, mut err) = (Vec::new(rt.alloc()), Vec::new(rt.alloc()));
+        let file = Err(io::ErrorKind::NotFound.into());
+        assert_eq!(rt; run(&words_of(rt.alloc(), words)?, file, &mut out, &mut err)?, *status);
+        assert_eq!(rt; String::from_utf8(err)?.as_str(), *message);
+        assert!(rt; out.is_empty());
+    }
+    Ok(())
+}
 
 #[test]
 fn runs_and_errors_are_written(rt: HostRuntime) -> Result<(), Fail> {
@@ -19,7 +45,8 @@ fn runs_and_errors_are_written(rt: HostRuntime) -> Result<(), Fail> {
         ("", NOW, "1min..5min x-3", 2, "", "schedule: not in the format FIRST..MOST xN\n  1min..5min x-3\n"),
     ] {
         let (mut out, mut err) = (Vec::new(rt.alloc()), Vec::new(rt.alloc()));
-        assert_eq!(rt; run(text, now, retry, &mut out, &mut err)?, *status);
+        let (words, file) = (words_of(rt.alloc(), &["jobs.txt", now, retry])?, String::from_str(rt.alloc(), text)?);
+        assert_eq!(rt; run(&words, Ok(file), &mut out, &mut err)?, *status);
         let delays = if errors.starts_with("schedule: ") { "" } else { DELAYS };
         assert_eq!(rt; String::from_utf8(out)?.as_str().strip_suffix(delays), Some(*runs));
         assert_eq!(rt; String::from_utf8(err)?.as_str(), *errors);

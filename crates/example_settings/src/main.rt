@@ -76,28 +76,34 @@ fn canonical(alloc: Global, text: &str) -> Result<String, SettingsError> {
     to_toml(alloc, &settings)
 }
 
-/// Writes the settings of a file with canonical strings, or what is wrong with them, and returns the exit status.
+/// Writes the settings of a file, which the only word names, with canonical strings, or what is wrong. Returns the exit status.
 pub fn run(
     alloc: Global,
-    path: &str,
-    text: &str,
+    words: &[String],
+    file: io::Result<String>,
     out: &mut impl Write,
     err: &mut impl Write,
-) -> io::Result<ExitCode> {
-    match canonical(alloc, text) {
-        Ok(settings) => write!(out, "{settings}").map(|()| ExitCode::SUCCESS),
-        Err(error) => writeln!(err, "{path}: {error}").map(|()| ExitCode::FAILURE),
+) -> io::Result<u8> {
+    let [path] = words else {
+        return writeln!(err, "usage: example_settings FILE").map(|()| 2);
+    };
+    let text = match file {
+        Ok(text) => text,
+        Err(error) => return writeln!(err, "{path}: {error}").map(|()| 1),
+    };
+    match canonical(alloc, &text) {
+        Ok(settings) => write!(out, "{settings}").map(|()| 0),
+        Err(error) => writeln!(err, "{path}: {error}").map(|()| 1),
     }
 }
 
 fn main(rt: HostRuntime) -> io::Result<ExitCode> {
     let words = env::args(&rt)?.skip(1).collect::<Vec<String>>(rt.alloc())?;
-    let [path] = words.as_slice() else {
-        eprintln!(rt; "usage: example_settings FILE")?;
-        return Ok(ExitCode::from(2));
+    let file = match words.first() {
+        Some(path) => fs::read_to_string(&rt, path.as_str()),
+        None => Ok(String::new(rt.alloc())),
     };
-    match fs::read_to_string(&rt, path.as_str()) {
-        Ok(text) => run(rt.alloc(), path, &text, &mut rt.stdout(), &mut rt.stderr()),
-        Err(error) => eprintln!(rt; "{path}: {error}").map(|()| ExitCode::FAILURE),
-    }
+    let (mut out, mut err) = (rt.stdout(), rt.stderr());
+    let status = run(rt.alloc(), &words, file, &mut out, &mut err)?;
+    Ok(ExitCode::from(status))
 }

@@ -2,7 +2,8 @@
 #![tactic(auto)]
 
 use example_settings::run;
-use std::process::ExitCode;
+use std::alloc::{AllocError, Global};
+use std::io;
 use std::test::Fail;
 
 const SETTINGS: &str = "# 90 seconds
@@ -34,6 +35,30 @@ timeout = \"5s\"
 [breaks]
 ";
 
+fn words_of(alloc: Global, words: &[&str]) -> Result<Vec<String>, AllocError> {
+    let mut strings = Vec::new(alloc);
+    for word in words {
+        strings.push(String::from_str(alloc, word)?)?;
+    }
+    Ok(strings)
+}
+
+#[test]
+fn wrong_words_and_a_file_that_is_not_read_are_errors(rt: HostRuntime) -> Result<(), Fail> {
+    for (words, status, message) in &[
+        ([].as_slice(), 2, "usage: example_settings FILE\n"),
+        (["a.toml", "b.toml"].as_slice(), 2, "usage: example_settings FILE\n"),
+        (["a.toml"].as_slice(), 1, "a.toml: entity not found\n"),
+    ] {
+        let (mut out, mut err) = (Vec::new(rt.alloc()), Vec::new(rt.alloc()));
+        let file = Err(io::ErrorKind::NotFound.into());
+        assert_eq!(rt; run(rt.alloc(), &words_of(rt.alloc(), words)?, file, &mut out, &mut err)?, *status);
+        assert_eq!(rt; String::from_utf8(err)?.as_str(), *message);
+        assert!(rt; out.is_empty());
+    }
+    Ok(())
+}
+
 #[test]
 fn settings_or_the_error_are_written(rt: HostRuntime) -> Result<(), Fail> {
     for (right, wrong, out_text, err_text) in &[
@@ -45,8 +70,8 @@ fn settings_or_the_error_are_written(rt: HostRuntime) -> Result<(), Fail> {
     ] {
         let (mut out, mut err) = (Vec::new(rt.alloc()), Vec::new(rt.alloc()));
         let text = SETTINGS.replace(rt.alloc(), *right, *wrong)?;
-        let status = run(rt.alloc(), "a.toml", &text, &mut out, &mut err)?;
-        assert!(rt; status == if err_text.is_empty() { ExitCode::SUCCESS } else { ExitCode::FAILURE });
+        let status = run(rt.alloc(), &words_of(rt.alloc(), &["a.toml"])?, Ok(text), &mut out, &mut err)?;
+        assert_eq!(rt; status, if err_text.is_empty() { 0 } else { 1 });
         assert_eq!(rt; String::from_utf8(out)?.as_str(), *out_text);
         assert_eq!(rt; String::from_utf8(err)?.as_str(), *err_text);
     }
