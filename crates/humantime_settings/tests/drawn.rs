@@ -242,10 +242,11 @@ impl Draw {
     }
 }
 
-/// Draws documents until this number have an error, and asserts that each of these has it, and that the others have none.
-fn assert_found(rt: &(impl Abort + AllocGlobal), is_json: bool, count: usize) -> Result<(), Fail> {
-    let (alloc, mut wrong, mut seed) = (rt.alloc(), 0, 0_u64);
-    while wrong < count {
+/// Draws documents, the first with the seed after this one, until 500 have an error. Asserts that each of these has it, and that the others
+/// have none.
+fn assert_found(rt: &(impl Abort + AllocGlobal), is_json: bool, mut seed: u64) -> Result<(), Fail> {
+    let (alloc, mut wrong) = (rt.alloc(), 0);
+    while wrong < 500 {
         seed += 1;
         let mut draw = Draw { state: seed * 0x9E37_79B9, is_json, text: String::new(alloc), kind: ("", ""), wrong: 0 };
         draw.kind = KINDS[draw.below(KINDS.len())];
@@ -265,10 +266,20 @@ fn assert_found(rt: &(impl Abort + AllocGlobal), is_json: bool, count: usize) ->
 
 #[test]
 fn drawn_documents_in_json(rt: HostRuntime) -> Result<(), Fail> {
-    assert_found(&rt, true, 1000)
+    assert_found(&rt, true, 0)
+}
+
+#[test]
+fn more_drawn_documents_in_json(rt: HostRuntime) -> Result<(), Fail> {
+    assert_found(&rt, true, 1 << 32)
 }
 
 #[test]
 fn drawn_documents_in_toml(rt: HostRuntime) -> Result<(), Fail> {
-    assert_found(&rt, false, 1000)
+    assert_found(&rt, false, 0)
+}
+
+#[test]
+fn more_drawn_documents_in_toml(rt: HostRuntime) -> Result<(), Fail> {
+    assert_found(&rt, false, 1 << 32)
 }
