@@ -5,7 +5,8 @@ ghost use Rattle.std.specs.List.{after_last, before_first};
 ghost use Rattle.humantime_settings.specs.Positions.{IsPositionIn, column_of, columns, is_line_feed, line_of, message_of};
 ghost use Rattle.humantime_settings.specs.declared.error.SettingsError.TheVariants.{OutOfMemory};
 
-use humantime_std::located::{Located, Underline};
+use crate::error_range::ErrorRange;
+use humantime_std::located::Underline;
 use std::alloc::{AllocError, Global};
 use std::error::Error;
 use std::fmt::{self, InlineText};
@@ -233,11 +234,9 @@ impl fmt::Display for SettingsError {
 
 /// Returns the end of a string, and before it dots, if that is not all.
 fn end_of(text: &str, most: usize) -> (&str, &str) {
-    let cut = text.floor_char_boundary(text.len().saturating_sub(most));
-    (
-        if cut > 0 { "..." } else { "" },
-        text.get(cut..).unwrap_or(""),
-    )
+    let cut = text.len().saturating_sub(most);
+    let (_, end) = text.split_at(text.floor_char_boundary(cut));
+    (if cut > 0 { "..." } else { "" }, end)
 }
 
 /// Returns the start of a string, and dots, if that is not all.
@@ -277,11 +276,7 @@ fn is_hidden(c: char) -> bool {
 impl Error for SettingsError {}
 
 /// Returns an error with its line. It begins where a character begins or the string ends, and ends with the line at the latest.
-pub(crate) fn error_at(
-    alloc: Global,
-    text: &str,
-    error: Located<String>,
-) -> Result<ErrorAt, AllocError>
+pub(crate) fn error_at(alloc: Global, text: &str, error: ErrorRange) -> Result<ErrorAt, AllocError>
     ensures { IfOk result (IsPositionIn text.now) }
 {
     let offset = text.floor_char_boundary(error.start);
@@ -298,7 +293,7 @@ pub(crate) fn error_at(
         before: String::from_str(alloc, last_line(before))?,
         part: String::from_str(alloc, part)?,
         after: String::from_str(alloc, after)?,
-        message: error.error,
+        message: error.message,
     })
 }
 

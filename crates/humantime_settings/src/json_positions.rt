@@ -46,15 +46,25 @@ pub(crate) fn found_at<'a>(
 
 /// Describes the value or the key that begins with a token.
 fn described<'a>(alloc: Global, token: Token<'a>, len: usize) -> Result<Found<'a>, AllocError> {
-    match token {
-        Token::String(text) | Token::Key(text) => Found::text(alloc, text),
-        Token::Number(n) if n.contains(['.', 'e', 'E']) => {
-            Found::value(alloc, Kind::Float, "floating point", n)
+    let mut text = "";
+    let (kind, words) = match token {
+        Token::String(string) | Token::Key(string) => {
+            text = string;
+            (Kind::Str, format!(in alloc; "string {string:?}")?)
         }
-        Token::Number(n) => Found::value(alloc, Kind::Signed, "integer", n),
-        Token::Bool(b) => Found::value(alloc, Kind::Bool, "boolean", b),
-        Token::Null => Found::other(alloc, Kind::Unit, "null", 0),
-        Token::BeginArray => Found::other(alloc, Kind::Seq, "sequence", 0),
-        _ => Found::other(alloc, Kind::Map, "map", len),
-    }
+        Token::Number(n) if n.contains(['.', 'e', 'E']) => {
+            (Kind::Float, format!(in alloc; "floating point `{n}`")?)
+        }
+        Token::Number(n) => (Kind::Signed, format!(in alloc; "integer `{n}`")?),
+        Token::Bool(b) => (Kind::Bool, format!(in alloc; "boolean `{b}`")?),
+        Token::Null => (Kind::Unit, String::from_str(alloc, "null")?),
+        Token::BeginArray => (Kind::Seq, String::from_str(alloc, "sequence")?),
+        _ => (Kind::Map, String::from_str(alloc, "map")?),
+    };
+    Ok(Found {
+        kind,
+        words,
+        text,
+        len,
+    })
 }

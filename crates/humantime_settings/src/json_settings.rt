@@ -8,11 +8,11 @@ ghost use Rattle.serde_json.specs.Sent.{AreTokensOf};
 ghost use Rattle.humantime_settings.specs.Positions.{IsErrorIn};
 
 use crate::error::{SettingsError, error_at};
+use crate::error_range::ErrorRange;
 use crate::json_positions::found_at;
 use crate::json_syntax::syntax_error;
-use crate::rejection::{Cause, Part, Rejection, error_from, range_at};
-use crate::trace::{Traced, Tried};
-use humantime_std::located::Located;
+use crate::rejection::{Cause, Part, Rejection, range_at};
+use crate::trace::Traced;
 use json::Scratch;
 use serde::{Deserialize, Serialize};
 use std::alloc::{AllocError, Global};
@@ -43,11 +43,14 @@ pub fn from_json<'a, T: Deserialize<'a>>(alloc: Global, text: &'a str) -> Result
     ensures position { IfErr result (IsErrorIn text.now) }
     ensures positioned { (message : _) → result ≢ Err (SettingsError.WithoutPosition message) }
 {
-    let error = match serde_json::from_str::<Tried<T>>(alloc, text) {
-        Ok(Tried(Some(value))) => return Ok(value),
-        Ok(Tried(None)) => value_error::<T>(alloc, text)?,
-        Err(error) => document_error(alloc, text, &error)?,
+    let error = match serde_json::from_str::<T>(alloc, text) {
+        Ok(value) => return Ok(value),
+        Err(error) => error,
     };
+    if error.is_memory() {
+        return Err(SettingsError::OutOfMemory);
+    }
+    let error = located::<T>(alloc, text, &error)?;
     Err(SettingsError::At(error_at(alloc, text, error)?))
 }
 
@@ -79,62 +82,29 @@ pub fn to_json<T: Serialize>(alloc: Global, value: &T) -> Result<String, Setting
     }
 }
 
-/// Returns the error of a document that does not contain the value.
-fn value_error<'a, T: Deserialize<'a>>(
-    alloc: Global,
-    text: &'a str,
-) -> Result<Located<String>, AllocError> {
-    if let Some(rejection) = rejection_of::<T>(alloc, text)? {
-        if rejection.cause != Cause::Borrowed {
-            return rejected(alloc, text, &rejection);
-        }
-    }
-    // The type borrows the string that it rejects.
-    match serde_json::from_str::<T>(alloc, text) {
-        Ok(_) => Err(AllocError),
-        Err(error) => document_error(alloc, text, &error),
-    }
-}
-
-/// Returns why a document does not contain a value, or `None` if it contains one.
-fn rejection_of<'a, T: Deserialize<'a>>(
-    alloc: Global,
-    text: &'a str,
-) -> Result<Option<Rejection>, AllocError> {
-    match serde_json::from_str::<Traced<T>>(alloc, text) {
-        Ok(Traced(read)) => Ok(read.err()),
-        Err(error) if error.is_memory() => Err(AllocError),
-        Err(_) => Ok(None),
-    }
-}
-
 /// Returns the error of a document with this error. What is not JSON has no other.
-fn document_error(
+fn located<'a, T: Deserialize<'a>>(
     alloc: Global,
-    text: &str,
+    text: &'a str,
     error: &serde_json::Error,
-) -> Result<Located<String>, AllocError> {
-    if error.is_memory() {
-        return Err(AllocError);
-    }
+) -> Result<ErrorRange, AllocError> {
     let mut scratch = Scratch::new(alloc);
     if !error.is_data() {
         if let Some((at, message)) = syntax_error(alloc, text, &mut scratch)? {
-            return Ok(error_from(at, String::from_str(alloc, message)?));
+            return Ok(ErrorRange::at(at, String::from_str(alloc, message)?));
         }
     }
-    Ok(error_from(error_offset(text, error), message_of(alloc, error)?))
+    match rejection_of::<T>(alloc, text)? {
+        Some(rejection) => rejected(alloc, text, &rejection),
+        None => Ok(ErrorRange::at(error_offset(text, error), message_of(alloc, error)?)),
+    }
 }
 
 /// Returns the error of a value.
-fn rejected(
-    alloc: Global,
-    text: &str,
-    rejection: &Rejection,
-) -> Result<Located<String>, AllocError> {
+fn rejected(alloc: Global, text: &str, rejection: &Rejection) -> Result<ErrorRange, AllocError> {
     let mut scratch = Scratch::new(alloc);
     let (at, mut found) = found_at(alloc, text, &rejection.path, rejection.part, &mut scratch)?;
-    if matches!(rejection.cause, Cause::Long | Cause::Short) {
+    if matches!(rejection.cause, Cause::Long(_) | Cause::Short) {
         found.len = array_len(alloc, text, &rejection.path)?;
     }
     range_at(alloc, text, at, rejection, &found)
@@ -145,6 +115,19 @@ fn array_len(alloc: Global, text: &str, path: &[usize]) -> Result<usize, AllocEr
     let mut scratch = Scratch::new(alloc);
     let (_, end) = found_at(alloc, text, path, Part::End, &mut scratch)?;
     Ok(end.len)
+}
+
+/// Returns why a document does not contain a value, or `None` if it is not JSON or contains one, or if the value borrows the string that
+/// its type rejects.
+fn rejection_of<'a, T: Deserialize<'a>>(
+    alloc: Global,
+    text: &'a str,
+) -> Result<Option<Rejection>, AllocError> {
+    match serde_json::from_str::<Traced<T>>(alloc, text) {
+        Ok(Traced(read)) => Ok(read.err()),
+        Err(error) if error.is_memory() => Err(AllocError),
+        Err(_) => Ok(None),
+    }
 }
 
 /// Returns the message of an error without its position.

@@ -56,7 +56,6 @@ mod json_settings;
 mod json_syntax;
 mod raw_strings;
 mod rejection;
-mod steps;
 mod toml_positions;
 mod toml_settings;
 mod trace;

@@ -5,10 +5,10 @@ ghost use Rattle.toml.specs.Parse.{parse_document};
 ghost use Rattle.humantime_settings.specs.Positions.{IsErrorIn};
 
 use crate::error::{SettingsError, error_at};
-use crate::rejection::{Cause, Found, Part, Rejection, error_from, range_at};
+use crate::error_range::ErrorRange;
+use crate::rejection::{Cause, Found, Part, Rejection, range_at};
 use crate::toml_positions::{Step, entry_of, last_part};
 use crate::trace::Traced;
-use humantime_std::located::Located;
 use serde::{DeserializeOwned, Kind, Serialize};
 use std::alloc::{AllocError, Global};
 use toml::Value;
@@ -104,16 +104,12 @@ fn document_error(
     if error.message() == ErrorKind::DuplicateKey.description() {
         at = last_part(alloc, text, at)?;
     }
-    let error = error_from(at, String::from_str(alloc, error.message())?);
+    let error = ErrorRange::at(at, String::from_str(alloc, error.message())?);
     Ok(SettingsError::At(error_at(alloc, text, error)?))
 }
 
 /// Returns the error of a value.
-fn located(
-    alloc: Global,
-    text: &str,
-    mut rejection: Rejection,
-) -> Result<Located<String>, AllocError> {
+fn located(alloc: Global, text: &str, mut rejection: Rejection) -> Result<ErrorRange, AllocError> {
     let Ok(table) = toml::table_from_str(alloc, text) else {
         return Err(AllocError);
     };
@@ -123,11 +119,11 @@ fn located(
         && (steps.len() < rejection.path.len() || rejection.part == Part::End)
     {
         // Nothing but a map is read from a date-time, step by step.
-        (rejection.part, rejection.cause) = (Part::Value, Cause::Expected(Kind::Map));
+        (rejection.part, rejection.cause) = (Part::Value, Cause::Expected);
         rejection.words = String::from_str(alloc, "a map")?;
     }
     let found = match steps.last() {
-        Some(Step::Key(key)) if rejection.part == Part::Key => Found::text(alloc, key)?,
+        Some(Step::Key(key)) if rejection.part == Part::Key => described_text(alloc, key)?,
         _ => described(alloc, value)?,
     };
     let at = offset_of(alloc, text, &steps, rejection.part)?;
@@ -142,8 +138,16 @@ fn way<'a>(
 ) -> Result<(Vec<Step<'a>>, &'a Value), AllocError> {
     let (mut steps, mut value) = (Vec::new(alloc), values);
     for number in path {
-        let Some((step, inner)) = step_into(value, *number) else {
-            break;
+        let (step, inner) = match value {
+            Value::Table(table) => match table.iter().nth(*number) {
+                Some((key, inner)) => (Step::Key(key.as_str()), inner),
+                None => break,
+            },
+            Value::Array(items) => match items.get(*number) {
+                Some(inner) => (Step::Item(number.saturating_add(1)), inner),
+                None => break,
+            },
+            _ => break,
         };
         steps.push(step)?;
         value = inner;
@@ -151,37 +155,38 @@ fn way<'a>(
     Ok((steps, value))
 }
 
-/// Returns the step to an entry or an item, and its value.
-fn step_into(value: &Value, number: usize) -> Option<(Step<'_>, &Value)> {
-    match value {
-        Value::Table(table) => {
-            let (key, inner) = table.iter().nth(number)?;
-            Some((Step::Key(key.as_str()), inner))
-        }
-        Value::Array(items) => {
-            let inner = items.get(number)?;
-            Some((Step::Item(number.saturating_add(1)), inner))
-        }
-        _ => None,
-    }
-}
-
 /// Describes a value.
 fn described(alloc: Global, value: &Value) -> Result<Found<'_>, AllocError> {
-    match value {
-        Value::String(text) => Found::text(alloc, text),
-        Value::Integer(n) => Found::value(alloc, Kind::Signed, "integer", *n),
-        Value::Float(x) => Found::value(
-            alloc,
-            Kind::Float,
-            "floating point",
-            format!(in alloc; "{x:?}")?,
-        ),
-        Value::Boolean(b) => Found::value(alloc, Kind::Bool, "boolean", *b),
-        Value::Datetime(_) => Found::other(alloc, Kind::Unsigned, "datetime", 0),
-        Value::Array(items) => Found::other(alloc, Kind::Seq, "sequence", items.len()),
-        Value::Table(_) => Found::other(alloc, Kind::Map, "map", 0),
-    }
+    let mut len = 0;
+    let (kind, words) = match value {
+        Value::String(text) => return described_text(alloc, text),
+        Value::Integer(n) => (Kind::Signed, format!(in alloc; "integer `{n}`")?),
+        Value::Float(x) => (Kind::Float, format!(in alloc; "floating point `{x:?}`")?),
+        Value::Boolean(b) => (Kind::Bool, format!(in alloc; "boolean `{b}`")?),
+        Value::Datetime(_) => (Kind::Map, String::from_str(alloc, "datetime")?),
+        Value::Array(items) => {
+            len = items.len();
+            (Kind::Seq, String::from_str(alloc, "sequence")?)
+        }
+        Value::Table(_) => (Kind::Map, String::from_str(alloc, "map")?),
+    };
+    Ok(Found {
+        kind,
+        words,
+        text: "",
+        len,
+    })
+}
+
+/// Describes a string or a key.
+fn described_text(alloc: Global, text: &str) -> Result<Found<'_>, AllocError> {
+    let words = format!(in alloc; "string {text:?}")?;
+    Ok(Found {
+        kind: Kind::Str,
+        words,
+        text,
+        len: 0,
+    })
 }
 
 /// Returns the offset of a part of the value to which steps lead.
