@@ -71,6 +71,8 @@ pub(crate) enum Stop {
     At(Box<Rejection>),
     /// The last variant is unknown.
     Variant,
+    /// The type rejects the empty string that it has in place of one that it borrows.
+    Borrowed,
 }
 
 /// What the next step reads, or the last one has read.
@@ -165,6 +167,7 @@ impl<'a, 'de, 's, F: Format> Trace<'a, 'de, 's, F> {
         match (stop, variant, error) {
             (Stop::At(rejection), _, _) => Ok(Box::into_inner(rejection)),
             (Stop::Variant, Some(rejection), _) => Ok(rejection),
+            (Stop::Borrowed, _, _) => Err(from.invalid()),
             (_, _, Some(error)) => Err(error),
             _ => Err(from.no_memory()),
         }
@@ -534,7 +537,7 @@ impl<F: Format> Format for Trace<'_, '_, '_, F> {
     }
 
     fn is_fatal(&self, stop: &Stop) -> bool {
-        matches!(stop, Stop::Fatal)
+        matches!(stop, Stop::Fatal | Stop::Borrowed)
     }
 
     fn missing(&self, name: &str) -> Stop {
@@ -569,7 +572,7 @@ impl<F: Format> Format for Trace<'_, '_, '_, F> {
 
     fn invalid(&self) -> Stop {
         let (part, cause, words) = match (self.last, self.at) {
-            (Last::Borrowed, _) => return Stop::Fatal,
+            (Last::Borrowed, _) => return Stop::Borrowed,
             (Last::NoKey, _) => (Part::End, Cause::Missing, self.words.as_str()),
             (Last::NoVariant, _) => (Part::End, Cause::Message, NO_VARIANT),
             (Last::Integer, _) => (self.part(), Cause::Expected, RANGE),
@@ -590,7 +593,7 @@ impl<F: Format> Format for Trace<'_, '_, '_, F> {
 
     fn custom(&self, message: &str) -> Stop {
         match (self.last, message) {
-            (Last::Borrowed, _) => Stop::Fatal,
+            (Last::Borrowed, _) => Stop::Borrowed,
             (_, "") => self.stop(self.part(), Cause::Message, "invalid value"),
             _ => self.stop(self.part(), Cause::Message, message),
         }

@@ -2,7 +2,8 @@
 
 use humantime::{Duration, StdDuration, SystemTime, Timestamp};
 use humantime_settings::{AsText, from_json, from_toml, to_json, to_toml};
-use serde::{Deserialize, DeserializeOwned, Serialize};
+use serde::{Deserialize, DeserializeOwned, Deserializer, Format, Serialize};
+use std::alloc::Global;
 use std::collections::BTreeMap;
 use std::fmt::Debug;
 use std::process::Abort;
@@ -144,5 +145,26 @@ fn moments_without_a_text_are_not_written(rt: HostRuntime) -> Result<(), Fail> {
             assert_eq!(rt; written.as_ref().err().map_or("", |error| error.message()), wanted);
         }
     }
+    Ok(())
+}
+
+/// A number that its type parses from a string that it borrows.
+#[derive(Debug, Drop)]
+struct Parsed(u64);
+
+impl<'de> Deserialize<'de> for Parsed {
+    fn deserialize<F: Format>(_alloc: Global, from: &mut Deserializer<'de, '_, F>) -> Result<Parsed, F::Error> {
+        match from.borrowed_str()?.parse() {
+            Ok(number) => Ok(Parsed(number)),
+            Err(_) => Err(from.custom("not a number")),
+        }
+    }
+}
+
+#[test]
+fn a_borrowed_string_is_rejected_by_its_type(rt: HostRuntime) -> Result<(), Fail> {
+    assert_eq!(rt; from_json::<Parsed>(rt.alloc(), "\"70\"")?.0, 70);
+    let error = from_json::<Parsed>(rt.alloc(), "\n\"7x\"").err().ok_or("read")?;
+    assert_eq!(rt; (error.message(), error.line()), ("not a number", Some(2)));
     Ok(())
 }
