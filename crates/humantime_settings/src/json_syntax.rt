@@ -1,15 +1,8 @@
 //! Where a string stops being JSON, and what is expected there.
 
+use crate::rejection::Part;
 use json::{Reader, Scratch, Token};
 use std::alloc::{AllocError, Global};
-
-/// What comes next, unless a bracket closes.
-#[derive(Clone, Copy, PartialEq, Eq, Drop)]
-enum Next {
-    Key,
-    Value,
-    Comma,
-}
 
 /// Returns the offset at which a string is not JSON, and why, or `None` if it is JSON with at most 127 objects and arrays in one another.
 pub(crate) fn syntax_error<'a>(
@@ -20,68 +13,56 @@ pub(crate) fn syntax_error<'a>(
     let mut reader = Reader::new(text, scratch)?;
     // For each open object and array, whether it is an object.
     let mut open: Vec<bool> = Vec::new(alloc);
-    let (mut next, mut may_close) = (Next::Value, false);
     for _ in 0..=text.len() {
         let (at, in_object) = (reader.offset(), open.last().copied());
+        let rest = text.get(at..).unwrap_or("");
         let front = text.get(..at).unwrap_or("").trim_end();
-        if front.ends_with(',') {
-            let Some(is_object) = in_object else {
-                return Ok(Some((
-                    front.len().saturating_sub(1),
-                    why(",", Next::Comma, None, true),
-                )));
-            };
-            (next, may_close) = (member(is_object), false);
+        if front.ends_with(',') && in_object.is_none() {
+            return Ok(Some((front.len().saturating_sub(1), "trailing characters")));
         }
+        let (next, may_close) = (next_behind(front, in_object), !front.ends_with([',', ':']));
         let token = reader.next().unwrap_or(Token::Bad);
-        let is_object = matches!(token, Token::BeginObject | Token::EndObject);
+        let end = reader.offset();
         match (token, next) {
-            (Token::Key(_), Next::Key) => (next, may_close) = (Next::Value, false),
-            (Token::Key(_), Next::Value) => {
-                let colon = text.get(..reader.offset()).unwrap_or("").rfind(':');
-                return Ok(Some((colon.unwrap_or(at), why(":", Next::Comma, in_object, true))));
+            (Token::Key(_), Part::Key) => {}
+            (Token::String(_) | Token::Number(_) | Token::Bool(_) | Token::Null, Part::Value) => {}
+            (Token::BeginObject, Part::Value) if open.len() < 127 => open.push(true)?,
+            (Token::BeginArray, Part::Value) if open.len() < 127 => open.push(false)?,
+            (Token::EndObject, _) if may_close && in_object == Some(true) => drop(open.pop()),
+            (Token::EndArray, _) if may_close && in_object == Some(false) => drop(open.pop()),
+            (Token::Bad, Part::End) if at == text.len() && in_object.is_none() => break,
+            (Token::String(_), Part::Key) => return Ok(Some((end, "expected `:`"))),
+            (Token::Key(_), Part::Value) => {
+                let colon = text.get(..end).unwrap_or("").rfind(':').unwrap_or(at);
+                return Ok(Some((colon, why(front, ":", Part::End, in_object))));
             }
-            (Token::String(_), Next::Key) => return Ok(Some((reader.offset(), "expected `:`"))),
-            (Token::BeginObject | Token::BeginArray, Next::Value) if open.len() < 127 => {
-                open.push(is_object)?;
-                (next, may_close) = (member(is_object), true);
-            }
-            (Token::EndObject | Token::EndArray, _) if may_close && in_object == Some(is_object) =>
-                {
-                    open.pop();
-                    next = Next::Comma;
-                }
-            (Token::String(_) | Token::Number(_) | Token::Bool(_) | Token::Null, Next::Value) => {
-                (next, may_close) = (Next::Comma, true);
-            }
-            (Token::Bad, Next::Comma) if in_object.is_none() && at == text.len() => return Ok(None),
-            _ => {
-                let rest = text.get(at..).unwrap_or("");
-                return Ok(Some((at, why(rest, next, in_object, may_close))));
-            }
+            _ => return Ok(Some((at, why(front, rest, next, in_object)))),
         }
     }
     Ok(None)
 }
 
-fn member(is_object: bool) -> Next {
-    if is_object { Next::Key } else { Next::Value }
+/// Returns what comes next behind this: a key, a value, or the comma or bracket at its end.
+fn next_behind(front: &str, in_object: Option<bool>) -> Part {
+    match (front.as_bytes().last(), in_object) {
+        (Some(b'{'), _) | (Some(b','), Some(true)) => Part::Key,
+        (None | Some(b':' | b'[' | b','), _) => Part::Value,
+        _ => Part::End,
+    }
 }
 
 /// Returns why the rest of a string cannot follow.
-fn why(rest: &str, next: Next, in_object: Option<bool>, may_close: bool) -> &'static str {
-    match (rest.as_bytes().first(), next) {
-        (None, _) => "EOF while parsing",
-        (Some(b'"'), Next::Key | Next::Value) => "invalid string",
-        (Some(b'{' | b'['), Next::Value) => "recursion limit exceeded",
-        (Some(b'}' | b']'), Next::Key) if !may_close => "trailing comma",
-        (Some(b']'), Next::Value) if !may_close && in_object == Some(false) => "trailing comma",
-        (_, Next::Key) => "key must be a string",
-        (_, Next::Value) => "expected value",
-        (_, Next::Comma) => match in_object {
-            Some(true) => "expected `,` or `}`",
-            Some(false) => "expected `,` or `]`",
-            None => "trailing characters",
-        },
+fn why(front: &str, rest: &str, next: Part, in_object: Option<bool>) -> &'static str {
+    match (rest.as_bytes().first(), next, in_object) {
+        (None, _, _) => "EOF while parsing",
+        (_, Part::End, Some(true)) => "expected `,` or `}`",
+        (_, Part::End, Some(false)) => "expected `,` or `]`",
+        (_, Part::End, None) => "trailing characters",
+        (Some(b'"'), _, _) => "invalid string",
+        (Some(b'{' | b'['), Part::Value, _) => "recursion limit exceeded",
+        (Some(b'}' | b']'), Part::Key, _) if front.ends_with(',') => "trailing comma",
+        (Some(b']'), Part::Value, Some(false)) => "trailing comma",
+        (_, Part::Key, _) => "key must be a string",
+        (_, Part::Value, _) => "expected value",
     }
 }
