@@ -22,7 +22,10 @@ pub(crate) fn syntax_error<'a>(
         }
         let (next, may_close) = (next_behind(front, in_object), !front.ends_with([',', ':']));
         let token = reader.next().unwrap_or(Token::Bad);
-        let end = reader.offset();
+        let stop = reader.offset();
+        // Where the reader stands, or the comma or colon that it has passed.
+        let passed = text.get(..stop).unwrap_or("").trim_end();
+        let end = passed.strip_suffix([',', ':']).map_or(stop, str::len);
         match (token, next) {
             (Token::Key(_), Part::Key) => {}
             (Token::String(_) | Token::Number(_) | Token::Bool(_) | Token::Null, Part::Value) => {}
@@ -33,8 +36,7 @@ pub(crate) fn syntax_error<'a>(
             (Token::Bad, Part::End) if at == text.len() && in_object.is_none() => break,
             (Token::String(_), Part::Key) => return Ok(Some((end, "expected `:`"))),
             (Token::Key(_), Part::Value) => {
-                let colon = text.get(..end).unwrap_or("").rfind(':').unwrap_or(at);
-                return Ok(Some((colon, why(front, ":", Part::End, in_object))));
+                return Ok(Some((end, why(front, ":", Part::End, in_object))));
             }
             _ => return Ok(Some((at, why(front, rest, next, in_object)))),
         }

@@ -136,6 +136,7 @@ struct Open { other: Option<u8> }
 /// Texts that are not JSON.
 const NO_JSON: &[Row<'static>] = &[
     ("expected `:`", &[r#"{"limit"^="1s"}"#, "{\"limit\"\n\t^\"1s\"}"]),
+    ("expected `:`", &[r#"{"limit"^,"1s"}"#, "{\"limit\"\n^, 1}"]),
     ("expected `,` or `]`", &[r#"{"a":{},"b":[1,"2" ^3]}"#, r#"{"a":["b" ^: 1]}"#, r#"{"a":[1,2^}]"#]),
     ("expected `,` or `}`", &[r#"{"a":{"b":true ^"c":1}}"#, r#"{"a":"b"^:1}"#, r#"{"a":{"b":1^]}"#]),
     ("trailing comma", &["{\"a\":[1,\n^]}", r#"{"a":1 , ^}"#]),
