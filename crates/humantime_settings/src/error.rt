@@ -235,7 +235,7 @@ impl fmt::Display for SettingsError {
 /// Returns the end of a string, and before it dots, if that is not all.
 fn end_of(text: &str, most: usize) -> (&str, &str) {
     let cut = text.len().saturating_sub(most);
-    let (_, end) = text.split_at(text.floor_char_boundary(cut));
+    let (_, end) = text.split_at(text.ceil_char_boundary(cut));
     (if cut > 0 { "..." } else { "" }, end)
 }
 

@@ -274,7 +274,7 @@ fn errors_are_printed(rt: HostRuntime) -> Result<(), Fail> {
 fn long_lines_are_cut(rt: HostRuntime) -> Result<(), Fail> {
     let alloc = rt.alloc();
     // A line of 500 bytes is shown whole, and of a longer one at most 100 bytes on each side of the error and in it.
-    for (space, count, front, shown, columns) in [(" ", 486, "timeout = '", 486, 498), (" ", 487, "...", 99, 103), ("\u{3000}", 200, "...", 33, 70)] {
+    for (space, count, front, shown, columns) in [(" ", 486, "timeout = '", 486, 498), (" ", 487, "...", 99, 103), ("\u{a0}", 250, "...", 49, 53), ("\u{3000}", 200, "...", 33, 70)] {
         let text = format!(in alloc; "timeout = '{}1~'", space.repeat(alloc, count)?)?;
         let (near, blank) = (space.repeat(alloc, shown)?, " ".repeat(alloc, columns)?);
         let (column, at) = (count + 13, count * space.len() + 1);
