@@ -18,27 +18,21 @@ pub(crate) fn found_at<'a>(
     // For each open object and array, the number of the value that is open or comes next.
     let mut numbers: Vec<usize> = Vec::new(alloc);
     for _ in 0..document.len() {
-        let (offset, mut len) = (reader.offset(), 0);
-        let token = reader.next().unwrap_or(Token::Bad);
+        let (offset, token) = (reader.offset(), reader.next().unwrap_or(Token::Bad));
         let found = match token {
             Token::Key(_) => Part::Key,
-            Token::EndObject | Token::EndArray => {
-                len = numbers.pop().unwrap_or(0);
-                Part::End
-            }
+            Token::EndObject | Token::EndArray => Part::End,
             _ => Part::Value,
         };
+        let is_end = found == Part::End;
+        let len = if is_end { numbers.pop() } else { None };
         if found == part && numbers.as_slice() == path {
-            return Ok((offset, described(alloc, token, len)?));
+            return Ok((offset, described(alloc, token, len.unwrap_or(0))?));
         }
-        match token {
-            Token::Key(_) => {}
-            Token::BeginObject | Token::BeginArray => numbers.push(0)?,
-            _ => {
-                if let Some(number) = numbers.last_mut() {
-                    *number = number.saturating_add(1);
-                }
-            }
+        match (token, numbers.last_mut()) {
+            (Token::BeginObject | Token::BeginArray, _) => numbers.push(0)?,
+            (Token::Key(_), _) | (_, None) => {}
+            (_, Some(number)) => *number = number.saturating_add(1),
         }
     }
     Ok((document.len(), described(alloc, Token::Bad, 0)?))

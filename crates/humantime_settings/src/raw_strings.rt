@@ -1,62 +1,53 @@
 //! Where a part of a string is in its literal: in JSON, or of each of the four kinds in TOML.
 
-/// The white space that a backslash at the end of a line leaves out.
-const BLANK: [char; 4] = [' ', '\t', '\r', '\n'];
+use toml_parser::text::skip_blank;
 
 /// Returns the range of the literal at the front of a document that stands for a range of its string.
 pub(crate) fn raw_range(document: &str, text: &str, start: usize, end: usize) -> (usize, usize) {
-    let (first, _) = piece_at(document, text, start);
-    if start < end {
-        (first, piece_at(document, text, end - 1).1)
+    let content = content_of(document);
+    let quotes = document.len().saturating_sub(content.len());
+    let (first, last) = if document.starts_with('\'') {
+        (start, end)
     } else {
-        (first, first)
-    }
+        let first = after_blank(content, offset_after(content, text, start));
+        (first, offset_after(content, text, end).max(first))
+    };
+    (quotes.saturating_add(first), quotes.saturating_add(last))
 }
 
-/// Returns where the character or the escape begins and ends that stands for a byte of the string, or twice where the closing quotes begin if
-/// the string has no such byte.
-fn piece_at(document: &str, text: &str, byte: usize) -> (usize, usize) {
-    let is_literal = document.starts_with('\'');
-    let mut next = content_start(document);
-    for (at, c) in text.char_indices() {
-        let start = after_blank(document, next, is_literal);
-        let len = if is_literal {
-            c.len_utf8()
-        } else {
-            raw_len(document.get(start..).unwrap_or(""), c)
-        };
-        next = start.saturating_add(len);
-        if byte < at.saturating_add(c.len_utf8()) {
-            return (start, next);
-        }
-    }
-    let end = after_blank(document, next, is_literal);
-    (end, end)
-}
-
-/// Returns the offset of what is between the quotes, if the document begins with any. A line feed at the start of three quotes is left out.
-fn content_start(document: &str) -> usize {
+/// Returns what is behind the quotes, if the document begins with any. A line feed at the start of three quotes is left out.
+fn content_of(document: &str) -> &str {
     for quotes in ["\"\"\"", "'''"] {
         if let Some(content) = document.strip_prefix(quotes) {
-            let feed = content.strip_prefix("\r\n").or(content.strip_prefix('\n'));
-            return document.len().saturating_sub(feed.unwrap_or(content).len());
+            let content = content.strip_prefix('\r').unwrap_or(content);
+            return content.strip_prefix('\n').unwrap_or(content);
         }
     }
-    document.starts_with(['"', '\'']) as usize
+    document.strip_prefix(['"', '\'']).unwrap_or(document)
+}
+
+/// Returns the offset in a string's content behind what stands for its first bytes.
+fn offset_after(content: &str, text: &str, len: usize) -> usize {
+    let mut next = 0;
+    for c in text.get(..len).unwrap_or(text).chars() {
+        let at = after_blank(content, next);
+        next = at.saturating_add(raw_len(content.get(at..).unwrap_or(""), c));
+    }
+    next
 }
 
 /// Returns the offset after each backslash at the end of a line, with the white space behind it.
-fn after_blank(document: &str, at: usize, is_literal: bool) -> usize {
-    let mut rest = document.get(at..).unwrap_or("");
-    for _ in 0..rest.len() {
+fn after_blank(content: &str, at: usize) -> usize {
+    let mut rest = content.get(at..).unwrap_or("");
+    for _ in 0..content.len() {
         match rest.strip_prefix('\\') {
-            Some(blank) if !is_literal && blank.starts_with(BLANK) => {
-                rest = blank.trim_start_matches(BLANK);
+            Some(blank) if blank.starts_with([' ', '\t', '\r', '\n']) => {
+                rest = skip_blank(blank, false);
             }
             _ => break,
         }
     }
-    document.len().saturating_sub(rest.len())
+    content.len().saturating_sub(rest.len())
 }
 
 /// Returns the length of what stands for a character at the front of the content.
