@@ -12,7 +12,7 @@ use crate::trace::Traced;
 use serde::{DeserializeOwned, Kind, Serialize};
 use std::alloc::{AllocError, Global};
 use toml::Value;
-use toml_parser::{ErrorKind, ParseError};
+use toml_parser::ErrorKind;
 
 /// Reads settings in TOML.
 ///
@@ -196,17 +196,7 @@ fn offset_of(
     steps: &[Step<'_>],
     part: Part,
 ) -> Result<usize, AllocError> {
-    match entry_of(alloc, document, steps) {
-        Ok(Some(entry)) => {
-            let rest = if part == Part::Key {
-                entry.key
-            } else {
-                entry.value
-            };
-            Ok(document.len().saturating_sub(rest.len()))
-        }
-        Err(ParseError::OutOfMemory) => Err(AllocError),
-        // `toml` has read the document, so it has the value.
-        Ok(None) | Err(ParseError::At(..)) => Ok(0),
-    }
+    let (key, value) = entry_of(alloc, document, steps)?;
+    let rest = if part == Part::Key { key } else { value };
+    Ok(document.len().saturating_sub(rest.len()))
 }
