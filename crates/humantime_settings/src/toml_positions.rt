@@ -3,7 +3,7 @@
 use std::alloc::{AllocError, Global};
 use toml::Value;
 use toml_parser::text::{first, skip_blank, skip_ws};
-use toml_parser::{quoted, starts_string};
+use toml_parser::{dotted_key, quoted, starts_string};
 
 /// A step from a table or an array to a value in it.
 #[derive(Clone, Copy)]
@@ -144,12 +144,18 @@ impl<'a> Walk<'a> {
     }
 }
 
-/// Returns the offset of the last part of the header or the key at an offset.
-pub(crate) fn last_part(alloc: Global, document: &str, at: usize) -> Result<usize, AllocError> {
+/// Returns the offset of the part at which the key at an offset, which can be that of a header, cannot be defined: the first that cannot be
+/// extended, or else the last.
+pub(crate) fn wrong_part(alloc: Global, document: &str, at: usize) -> Result<usize, AllocError> {
     let mut part = tail(document, at).trim_start_matches(['[', ' ', '\t']);
-    for _ in 0..document.len() {
+    let (key, behind) = dotted_key(alloc, part).map_err(|_| AllocError)?;
+    // No key of the document is as long.
+    let fresh = "x".repeat(alloc, document.len())?;
+    for _ in &key.path {
         let (_, rest) = name_at(alloc, part)?;
-        if first(rest) != b'.' {
+        let front = document.strip_suffix(rest).unwrap_or("");
+        let text = format!(in alloc; "{front}.{fresh}{behind}")?;
+        if error_start(toml::table_from_str(alloc, &text))? == Some(at) {
             break;
         }
         part = skip_ws(tail(rest, 1));
@@ -186,9 +192,15 @@ fn next_item(rest: &str) -> &str {
 
 /// Returns the document behind the value at the front, where `toml` finds more than a value.
 fn after_value(alloc: Global, value: &str) -> Result<&str, AllocError> {
-    match Value::from_str(alloc, value) {
-        Ok(_) => Ok(""),
-        Err(error) => Ok(tail(value, error.span().ok_or(AllocError)?.start)),
+    let end = error_start(Value::from_str(alloc, value))?;
+    Ok(tail(value, end.unwrap_or(value.len())))
+}
+
+/// Returns the offset of an error, if there is one.
+fn error_start<T: Drop>(read: Result<T, toml::de::Error>) -> Result<Option<usize>, AllocError> {
+    match read {
+        Ok(_) => Ok(None),
+        Err(error) => Ok(Some(error.span().ok_or(AllocError)?.start)),
     }
 }
 

@@ -7,7 +7,7 @@ ghost use Rattle.humantime_settings.specs.Positions.{IsErrorIn};
 use crate::error::{SettingsError, error_at};
 use crate::error_range::ErrorRange;
 use crate::rejection::{Cause, Found, Part, Rejection, range_at};
-use crate::toml_positions::{Step, entry_of, last_part};
+use crate::toml_positions::{Step, entry_of, wrong_part};
 use crate::trace::Traced;
 use serde::{DeserializeOwned, Kind, Serialize};
 use std::alloc::{AllocError, Global};
@@ -22,7 +22,7 @@ use toml_parser::ErrorKind;
 /// whose keys sort first has the error. The position is
 ///
 /// - in a string or a key that is no duration or timestamp: what is wrong in it;
-/// - of another wrong value, or of an unknown or a duplicate key, or the last part of it: its start;
+/// - of another wrong value, or of an unknown or a duplicate key, or the part of it that is wrong: its start;
 /// - of a missing key: the start of its table. This is its header or its brace, or the first key that makes it, and of the table at the top
 ///   the start of the document.
 ///
@@ -101,8 +101,9 @@ fn document_error(
         return Ok(SettingsError::OutOfMemory);
     };
     let mut at = span.start;
-    if error.message() == ErrorKind::DuplicateKey.description() {
-        at = last_part(alloc, text, at)?;
+    let is = |kind: ErrorKind| error.message() == kind.description();
+    if is(ErrorKind::DuplicateKey) || is(ErrorKind::Extend) {
+        at = wrong_part(alloc, text, at)?;
     }
     let error = ErrorRange::at(at, String::from_str(alloc, error.message())?);
     Ok(SettingsError::At(error_at(alloc, text, error)?))
