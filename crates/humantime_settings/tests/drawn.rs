@@ -1,15 +1,13 @@
-//! Drawn documents with at most one error each: it is found where it was put.
+//! Fixed and drawn documents with at most one error each: it is found where it was put.
 
-use crate::support::{message_at, reads};
-use humantime::{StdDuration, SystemTime};
+use crate::support::{Wait, filled, message_at, reads};
+use humantime::SystemTime;
 use humantime_settings::AsText;
 use serde::Deserialize;
 use std::alloc::AllocError;
 use std::collections::BTreeMap;
 use std::process::Abort;
 use std::test::Fail;
-
-type Wait = AsText<StdDuration>;
 
 /// The document, or a table in it.
 #[derive(Debug, Drop, Deserialize)]
@@ -63,15 +61,18 @@ const BOTH: Parts = &[
         "<'count><=><number><,><'max-age><=><value><,>^\"count\"<=><number>", "<'max-age><=><value><,>^\"max-age\"<=><value>",
     ]),
     ("wrong ,", &["<blank>^"]), ("blank", &[" ", "\n", "\t "]), ("wrong value", &["<wrong text>", "<wrong text>", "<wrong text>", "<no text>"]),
+    ("wrong time", &["<wrong moment>", "<wrong moment>", "<wrong moment>", "<no text>"]),
     ("wrong text", &[
         "<\"^>", "<\"^~^>", "<\"5µs ^~^>", "<\"1s 2^>", "<\"1^x^ 2s>", "<\" 2h 5^~^>", "<\"\u{3000}2h\t5^~^>", "<\"1h ^#^[ >", "<\"1s ^\\^>",
         "<\"1s ^\"^>", "<\"1h\n2s ^é^𝄞>", "<\"1d\u{3000}2h ^𝄞^1h>", "<\"5^parsecs^ 1h>", "<\"9^µx^>", "<\"5µs ^\u{1b}^>", "<\"5^\u{10ffff}^>",
-        "<\"\u{2003}2w ^/^>", "<\"1s ^\\^u00e9>", "<\"1h ^😀^x>",
+        "<\"\u{2003}2w ^/^>", "<\"1s ^\\^u00e9>", "<\"1h ^😀^x>", "<\"1s 2h ^é^𝄞>", "<\"1h\n2s\n^é^𝄞>", "<\"5^parsecs^\t1h>", "<\"1d ^\u{1b}^>",
+        "<\"2w ^/^>", "<\"1d 2h ^𝄞^1h>", "<\"2w ^é^>", "<\"1h\r\n2s ^\u{1b}^>", "<\"1h ^\u{1b}^😀>", "<\"1s\n2^parsecs^\n>", "<\"1s ^~^>",
+        "<\"1^~^>", "<\"1s\n2^>", "<\"1m 9^parsecs^>", "<\"2h\t^é^>",
     ]),
-    ("wrong time", &[
-        "<\"^>", "<\"2018-2^-^14 00:28:07>", "<\"2018-02^é^>", "<\"2018-02-^30^ 00:28:07>", "<\"2018-^13^-14T00:28:07.>", "<no text>",
+    ("wrong moment", &[
+        "<\"^>", "<\"2018-2^-^14 00:28:07>", "<\"2018-02^é^>", "<\"2018-02-^30^ 00:28:07>", "<\"2018-^13^-14T00:28:07.>",
         "<\"2018-02-14 00:28:07^\u{1b}[\"^>", "<\"2018-02-14 00:28:07.5^+02:00^>", "<\"2018-02-14T00:28:07^😀𝄞é^>", "<\"2018-02-14 00:28:07^𝄞\t😀~^>",
-        "<\"2018-02-14 00:28:07^\u{10ffff}\\1^>", "<\"2018-02-14 00:28:07Z^\n~^>",
+        "<\"2018-02-14 00:28:07^\u{10ffff}\\1^>", "<\"2018-02-14 00:28:07Z^\n~^>", "<\"2018-02-14 00:28:07^\\1^>",
     ]),
 ];
 
@@ -85,7 +86,7 @@ const JSON: Parts = &[
     ("name", &[r#""\"""#, r#""z\ty""#, r#""\u007a\\""#, r#""}""#]), ("no text", &["^7", "^-2.5e3", "^true", "^[<_><\"1s><_>]", "^[]", "^{}"]),
     ("wrong job", &["<'job><=>{<_><'count><=>7<_>^}", "<'job><=>{<_><'max-age><=><value><_>^}", "<'job><=>{<_>^}", "<'job><=>^7"]),
     ("_", &["", " ", "\n", "\r\n\t"]), ("=", &["<_>:<_>"]), ("wrong =", &["<_>^=<_>", "<blank>^", "<_>:<_>^:", "<_>:<_>^,"]), (",", &["<_>,<_>"]),
-    ("]", &["<_>]"]),
+    ("]", &["<_>]"]), ("open", &["\""]),
 ];
 
 const TOML: Parts = &[
@@ -104,49 +105,83 @@ const TOML: Parts = &[
     ("skip", &["skip = [1, ']', { wait = '1~', b = [ 2, \"[\" ] }, 1979-05-27]", "skip.wait = '1~'", "skip = \"\"\"\nwait = '1~'\n\"\"\""]),
     ("last", &["last = 0", "last = {}"]), ("name", &["y", "'y.z'", "\"\\u0061\\t\"", "\"]\""]),
     ("no text", &[
-        "^7", "^0x1F", "^-2.5e3", "^inf", "^true", "^1979-05-27 07:32:00Z", "^07:32:00", "^[<_><\"1s><_>]", "^[]", "^{}", "^{ a = <\"1s> }",
+        "^7", "^0x1F", "^-2.5e3", "^inf", "^-nan", "^true", "^1979-05-27 07:32:00Z", "^07:32:00", "^[<_><\"1s><_>]", "^[]", "^{}",
+        "^{ a = <\"1s> }",
     ]),
     ("_", &["", " ", "\n", " # ]\n\t"]),
     ("wrong job", &["<'job><=>^{<_><'count><=>7<_>}", "<'job><=>^{<_><'max-age><=><value><_>}", "<'job><=>^{<_>}", "<'job><=>^7"]),
     ("=", &["=", " = ", "\t= "]), ("wrong =", &["<tab>^: ", "^~", "<is>^=", "<is>^, "]), ("tab", &[" ", "\t"]), ("is", &["=", " = "]),
     (",", &[",", " , ", ", # '~' ]\n", ",\r\n\t"]), ("]", &["]", " ,\n]", "<_>]"]),
+    // What is before the content of a string, and ends of lines that a backslash leaves out.
+    ("open", &["\"", "\"", "\"", "'", "\"\"\"", "\"\"\"\n", "\"\"\"\r\n", "'''", "'''\n", "'''\r\n"]), ("break", &["\\\n", "\\\r\n  ", "\\ \t\n\n \t\r\n"]),
     // What follows a value outside brackets.
     ("end", &["\n", "\r\n", " # ' [ { \" = '1~'\n", "\t#]\r\n", "\n\n# [wait]\n", "\n  "]),
 ];
 
-/// What is before the content of a string in TOML.
-const OPEN: [&str; 8] = ["\"", "'", "\"\"\"", "\"\"\"\n", "\"\"\"\r\n", "'''", "'''\n", "'''\r\n"];
+/// What stands for names in both formats, in TOML, and in JSON.
+const GRAMMAR: [Parts; 3] = [BOTH, TOML, JSON];
 
-/// The ways to write a character between double quotes, those of both formats and those of each.
+/// The ways to write a character between double quotes.
 const WAYS: [Parts; 3] = [
     &[
-        ("1", &["1", r"\u0031"]), ("s", &["s", r"\u0073"]), (" ", &[" ", r"\u0020"]), ("~", &["~", r"\u007e", r"\u007E"]),
+        ("1", &["1", r"\u0031"]), ("s", &["s", r"\u0073"]), (" ", &[" ", r"\u0020"]), ("~", &["~", r"\u007e", r"\u007E"]), ("-", &["-", r"\u002D"]),
         ("µ", &["µ", r"\u00b5"]), ("\u{3000}", &["\u{3000}", r"\u3000"]), ("\\", &[r"\\", r"\u005c"]), ("\"", &[r#"\""#, r"\u0022"]),
-        ("\t", &[r"\t", r"\u0009"]), ("\n", &[r"\n", r"\u000A"]),
+        ("p", &["p", r"\u0070"]), ("\t", &[r"\t", r"\u0009"]), ("\n", &[r"\n", r"\u000A"]), ("\r", &[r"\r"]),
+    ],
+    &[
+        ("2", &["2", r"\x32", r"\U00000032"]), ("é", &["é", r"\xe9", r"\u00E9", r"\u00e9"]), ("\u{1b}", &[r"\e", r"\x1B", r"\u001b"]),
+        ("𝄞", &["𝄞", r"\U0001D11E"]), ("😀", &["😀", r"\U0001f600"]), ("\u{10ffff}", &["\u{10ffff}", r"\U0010FFFF"]),
     ],
     &[
         ("/", &["/", r"\/", r"\u002f"]), ("é", &["é", r"\u00e9"]), ("\u{1b}", &[r"\u001b"]), ("𝄞", &["𝄞", r"\uD834\uDd1e", r"\ud834\udd1E"]),
         ("😀", &["😀", r"\ud83d\uDE00", r"\uD83D\ude00"]), ("\u{10ffff}", &["\u{10ffff}", r"\uDBFF\udfff"]),
     ],
-    &[
-        ("2", &["2", r"\x32", r"\U00000032"]), ("é", &["é", r"\xe9", r"\u00E9"]), ("\u{1b}", &[r"\e", r"\x1B", r"\u001b"]),
-        ("𝄞", &["𝄞", r"\U0001D11E"]), ("😀", &["😀", r"\U0001f600"]), ("\u{10ffff}", &["\u{10ffff}", r"\U0010FFFF"]),
-    ],
 ];
+
+/// Returns the texts that a name has for both formats, or for one.
+fn texts(tables: &[Parts; 3], is_json: bool, name: &str) -> Option<&'static [&'static str]> {
+    Some(tables[0].iter().chain(tables[1 + is_json as usize]).find(|entry| entry.0 == name)?.1)
+}
+
+/// Documents, in which each `@` is a duration and each `%` a timestamp. Some keys are unknown, or have escapes and what they do not end at.
+const FIXED_JSON: &[&str] = &[
+    "{\"wait\":@,\"since\":%}",
+    "\r\n\t{ \n\"w\\u0061it\"\t: @ ,\r\n\"since\" :\n%\n}\n",
+    r#"{"skip":[{"wait":"1~"}, "]\"", 1.5e3, null], "wait": @, "list":[ ],"last":{}, "\u0061.b" :@,"one":{"last":0 },"a":{ "b":@}}"#,
+    "{\"list\":[@,\"1\\ts\",@,\n@],\"\\\"wait\\\"\":\"\\\\\",\"grid\":[[@],[\t],\r\n[\"\\u0031s\",@]],\"since\":%,\"many\":[\n],\"a.b\":@}",
+    r#"{"named":{"x":@, "\"":"2h 5m","z\ty":@ , "\u007a\\" : @,"}":@},"many":[{"last":{},"wait":@}, {"skip":{ },"list":[@, "1s"]}]}"#,
+    r#"{"many":[{"named":{"]":"1\u0073"},"wait":@}],"a":{"b":@},"on\u0065":{"grid":[],"since":%,"one":{"wait":@},"last":0}}"#,
+];
+const FIXED_TOML: &[&str] = &[
+    "wait=@\nsince = %",
+    "\u{feff}skip = [1, ']', { wait = '1~', b = [2, \"[\"] }, 1979-05-27]\n\twait\t= @\t#]\r\nlist = []\n\n# [wait]\n\"a.b\" = @ # ' [ {\n",
+    "'one' = { # ]\n\twait=@,last = {},named.x = @ }\r\nlast = 0 # \" = '1~'\n[ \ta ]\r\n\"\\u0062\" = @\n",
+    "# [\n\"\\u006cist\" = [@, # '~' ]\n\"\"\"\r\n\u{3000}1h\n2s \"\"\" ,\r\n\t@ ,\n@ ,\n]\n  since = %\n'a.b'\t= @",
+    "grid=[ # ]\n\t[@ ,\n],[\n],['1s', @\n] ]\r\n[a]\nb =@",
+    "many = [{ 'wait'= @ , \"named\" = { x = @, # '~' ]\n 'y'\t= @ } } , {\n\"last\" = 0, list = [@] } ]\n",
+    "\r\nnamed.x = @\nlist = [@]\n'named' . \"y z\" = @\n  \"a.b\"= @\n[[many]]\nwait = @ #\n[many.a]\n']' = @\n",
+    "skip.wait = '1~'\n[[ 'many' ]] # ' [ {\ngrid = []\n[\"a\"]\nb = @",
+    "named={\"x\"=@,\"\\u0061\\t\" =@,\"]\"=@}\n\t[[\"many\"]]\nlist = ['''\n1s''', @]\n[ many . 'a' ]\r\n\"]\" = @\n[[many]]\nsince=%\n",
+    "skip = \"\"\"\nwait = '1~'\n\"\"\"\n\"named\".'y z' = @\n'named'.'y.z'=\"\"\"\\\r\n 1\\ \t\n\n s\"\"\"\nwait=@\n[one]\n\t\"wait\" = @",
+    "[one]\n'since' = %\nnamed.x = @\nlist=[]\n['one'.one]\nwait = @",
+];
+
+/// The parts at these places, with the names of what is wrong there.
+const PLACES: [(&str, &str); 5] = [("value", "wrong text"), ("value", "no text"), ("time", "wrong moment"), ("time", "wrong moment"), ("time", "no text")];
 
 /// A document that is drawn.
 #[derive(Drop)]
-struct Draw {
+struct Draw<'a> {
     state: u64,
     is_json: bool,
     /// An error begins and ends at `^`.
     text: String,
     /// The part that is wrong, and its number among those that are still to be put, from 1. None has the number 0.
-    kind: (&'static str, &'static str),
+    kind: (&'a str, &'a str),
     wrong: usize,
 }
 
-impl Draw {
+impl<'a> Draw<'a> {
     /// Returns a number below another one.
     fn below(&mut self, end: usize) -> usize {
         self.state ^= self.state << 13;
@@ -155,40 +190,34 @@ impl Draw {
         ((self.state >> 8) % end as u64) as usize
     }
 
-    /// Puts one of the texts of a name.
-    fn put(&mut self, name: &'static str) -> Result<(), AllocError> {
-        let mut left = Vec::new(*self.text.allocator());
-        left.push(self.text_of(name))?;
-        while let Some(text) = left.pop() {
-            let (before, named) = text.split_once('<').unwrap_or((text, ""));
+    /// Puts a text with what names in it stand for.
+    fn put(&mut self, text: &'a str) -> Result<(), AllocError> {
+        for part in text.split('>') {
+            let (before, name) = part.split_once('<').unwrap_or((part, ""));
             self.text.push_str(before)?;
-            let Some((name, after)) = named.split_once('>') else {
-                continue;
-            };
-            left.push(after)?;
-            match name.split_at(1) {
-                ("'", key) => self.put_key(key)?,
-                ("\"", text) => self.put_string(text)?,
-                _ => left.push(self.text_of(name))?,
+            match name.split_at_checked(1) {
+                None => {}
+                Some(("'", key)) => self.put_key(key)?,
+                Some(("\"", text)) => self.put_string(text)?,
+                _ => {
+                    let text = self.text_of(name);
+                    self.put(text)?;
+                }
             }
         }
         Ok(())
     }
 
     /// Returns one of the texts of a name, or one that is wrong in the place of the one that is to be wrong.
-    fn text_of(&mut self, name: &'static str) -> &'static str {
+    fn text_of(&mut self, name: &'a str) -> &'a str {
         let (part, wrong) = self.kind;
         self.wrong = self.wrong.wrapping_sub((name == part) as usize);
-        let name = if name == part && self.wrong == 0 { wrong } else { name };
-        self.one_of(if self.is_json { JSON } else { TOML }, BOTH, name)
+        self.one_of(&GRAMMAR, if name == part && self.wrong == 0 { wrong } else { name })
     }
 
-    /// Returns one of the texts that a name has in one of two tables, or the name.
-    fn one_of<'a>(&mut self, parts: Parts, others: Parts, name: &'a str) -> &'a str {
-        let Some((_, texts)) = parts.iter().chain(others).find(|entry| entry.0 == name) else {
-            return name;
-        };
-        texts[self.below(texts.len())]
+    /// Returns one of the texts of a name, or the name.
+    fn one_of<'b>(&mut self, tables: &[Parts; 3], name: &'b str) -> &'b str {
+        texts(tables, self.is_json, name).map_or(name, |texts| texts[self.below(texts.len())])
     }
 
     /// Puts a key in quotes, which can have an escape, or in TOML also in single quotes or bare.
@@ -207,8 +236,7 @@ impl Draw {
 
     /// Puts a string with this text, each of whose characters is written in one of its ways.
     fn put_string(&mut self, text: &str) -> Result<(), AllocError> {
-        let at = self.below(OPEN.len());
-        let open = if self.is_json { "\"" } else { OPEN[at] };
+        let open = self.one_of(&GRAMMAR, "open");
         let (is_long, is_literal) = (open.len() > 1, open.starts_with('\''));
         self.text.push_str(open)?;
         for (at, c) in text.char_indices() {
@@ -216,16 +244,14 @@ impl Draw {
                 self.put_blank(c)?;
             }
             let is_plain = is_literal || c == '\n' && is_long && self.below(2) == 0;
-            match c {
-                '\n' if is_plain && !is_long => self.text.push(' ')?,
-                '\u{1b}' if is_plain => self.text.push('?')?,
-                _ if is_plain => self.text.push(c)?,
-                _ => {
-                    let plain = &text[at..at + c.len_utf8()];
-                    let way = self.one_of(WAYS[if self.is_json { 1 } else { 2 }], WAYS[0], plain);
-                    self.text.push_str(way)?;
-                }
-            }
+            let plain = &text[at..at + c.len_utf8()];
+            let way = match c {
+                '\r' | '\n' if is_plain && !is_long => " ",
+                '\u{1b}' if is_plain => "?",
+                _ if is_plain => plain,
+                _ => self.one_of(&WAYS, plain),
+            };
+            self.text.push_str(way)?;
         }
         self.text.push_str(open.trim_end())
     }
@@ -236,32 +262,61 @@ impl Draw {
         if is_marked || matches!(c, ' ' | '\t' | '\n') || self.below(6) > 0 {
             return Ok(());
         }
-        let blanks = ["\\\n", "\\\r\n  ", "\\ \t\n\n \t\r\n"];
-        let at = self.below(blanks.len());
-        self.text.push_str(blanks[at])
+        let blank = self.one_of(&GRAMMAR, "break");
+        self.text.push_str(blank)
     }
 }
 
-/// Draws documents, the first with the seed after this one, until 500 have an error. Asserts that each of these has it, and that the others
-/// have none.
+/// Draws a document with a wrong part of this kind and number, and asserts that it has this error. Returns whether there is such a part.
+fn is_wrong(rt: &(impl Abort + AllocGlobal), is_json: bool, seed: u64, kind: (&str, &str), wrong: usize, text: &str) -> Result<bool, Fail> {
+    let mut draw = Draw { state: (seed + 1) * 0x9E37_79B9, is_json, text: String::new(rt.alloc()), kind, wrong };
+    draw.put(text)?;
+    let (read, text) = (reads!(Table)[is_json as usize], draw.text.as_str());
+    if text.contains('^') {
+        message_at(rt, read, text)?;
+        return Ok(true);
+    }
+    let error = read(rt.alloc(), text);
+    assert!(rt; error.is_none(), "{error:?} {text}");
+    Ok(false)
+}
+
+/// Draws documents, the first from this seed, until 500 have an error.
 fn assert_found(rt: &(impl Abort + AllocGlobal), is_json: bool, mut seed: u64) -> Result<(), Fail> {
-    let (alloc, mut wrong) = (rt.alloc(), 0);
-    while wrong < 500 {
+    let mut found = 0;
+    while found < 500 {
+        let number = seed as usize;
+        found += is_wrong(rt, is_json, seed, KINDS[number % KINDS.len()], number / KINDS.len() % 4, "<document>")? as u32;
         seed += 1;
-        let mut draw = Draw { state: seed * 0x9E37_79B9, is_json, text: String::new(alloc), kind: ("", ""), wrong: 0 };
-        draw.kind = KINDS[draw.below(KINDS.len())];
-        draw.wrong = draw.below(4);
-        draw.put("document")?;
-        let (read, text) = (reads!(Table)[is_json as usize], draw.text.as_str());
-        if text.contains('^') {
-            wrong += 1;
-            message_at(rt, read, text)?;
-        } else {
-            let error = read(alloc, text);
-            assert!(rt; error.is_none(), "{error:?} {text}");
+    }
+    Ok(())
+}
+
+/// Asserts that these documents are right, and that each wrong value is marked in each of its places, in one of the ways to write it.
+fn assert_marked(rt: &(impl Abort + AllocGlobal), is_json: bool, documents: &[&str]) -> Result<(), Fail> {
+    let mut seed = 0;
+    for document in documents {
+        let document = filled(rt, document, &[("@", "<value>"), ("%", "<time>")])?;
+        assert!(rt; !is_wrong(rt, is_json, seed, ("", ""), 0, &document)?);
+        for (part, name) in PLACES {
+            let (wrong, places) = (texts(&GRAMMAR, is_json, name).ok_or(name)?, document.matches(part).count());
+            for number in 0..wrong.len() * places {
+                seed += 1;
+                assert!(rt; is_wrong(rt, is_json, seed, (part, wrong[number / places]), number % places + 1, &document)?);
+            }
         }
     }
     Ok(())
+}
+
+#[test]
+fn wrong_values_in_json(rt: HostRuntime) -> Result<(), Fail> {
+    assert_marked(&rt, true, FIXED_JSON)
+}
+
+#[test]
+fn wrong_values_in_toml(rt: HostRuntime) -> Result<(), Fail> {
+    assert_marked(&rt, false, FIXED_TOML)
 }
 
 #[test]

@@ -4,7 +4,6 @@
 mod attributes;
 mod documents;
 mod drawn;
-mod marks;
 mod refused;
 pub(crate) mod support;
 mod values;

@@ -1,9 +1,12 @@
 //! Documents with their errors.
 
-use humantime_settings::SettingsError;
-use std::alloc::{AllocError, Global};
+use humantime::StdDuration;
+use humantime_settings::{AsText, SettingsError};
+use std::alloc::Global;
 use std::process::Abort;
 use std::test::Fail;
+
+pub(crate) type Wait = AsText<StdDuration>;
 
 /// Reads a document, and returns its error.
 pub(crate) type Read = fn(Global, &str) -> Option<SettingsError>;
@@ -21,11 +24,20 @@ pub(crate) use reads;
 /// A message, and documents with this error. It begins at `^`, and ends at a second one, if its end is known.
 pub(crate) type Row<'a> = (&'a str, &'a [&'a str]);
 
-/// Returns a text with what names in it stand for.
-pub(crate) fn filled(rt: &impl AllocGlobal, text: &str, names: &[(&str, &str)]) -> Result<String, AllocError> {
-    let mut filled = String::from_str(rt.alloc(), text)?;
+/// Returns a text with what names in it stand for, and each `«text*count»` as this text repeated, with the number of each for `#`.
+pub(crate) fn filled(rt: &impl AllocGlobal, text: &str, names: &[(&str, &str)]) -> Result<String, Fail> {
+    let (alloc, mut named) = (rt.alloc(), String::from_str(rt.alloc(), text)?);
     for (name, meaning) in names {
-        filled = filled.replace(rt.alloc(), *name, *meaning)?;
+        named = named.replace(alloc, *name, *meaning)?;
+    }
+    let mut filled = String::new(alloc);
+    for part in named.split('»') {
+        let (before, repeated) = part.split_once('«').unwrap_or((part, "*0"));
+        let (repeated, count) = repeated.split_once('*').ok_or("no count")?;
+        filled.push_str(before)?;
+        for number in 0..count.parse::<u32>()? {
+            filled.push_str(&repeated.replace(alloc, "#", &format!(in alloc; "{number}")?)?)?;
+        }
     }
     Ok(filled)
 }

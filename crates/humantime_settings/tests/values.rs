@@ -119,17 +119,13 @@ fn values_that_are_not_texts_are_rejected(rt: HostRuntime) -> Result<(), Fail> {
         (r#"{"until":"2018-02-30T00:28:07Z"}"#, "numeric component is out of r... at line 1 column 10"),
         (r#"{"until":"1s"}"#, "timestamp format is invalid at line 1 column 10"),
         (r#"{"until":90}"#, "expected a timestamp in quotes at line 1 column 10"),
-    ] {
-        let error = serde_json::from_str::<Optional>(rt.alloc(), text).err().ok_or("read")?;
-        assert_eq!(rt; error.to_string(rt.alloc())?.as_str(), message);
-    }
-    for (text, message) in [
         ("wait = '2 moons'", "unknown time unit \"moons\", supported units: ns, us/µs, ms, sec, min, hours, ...\nin `wait`\n"),
         ("until = '1969-12-31T23:59:59Z'", "numeric component is out of range\nin `until`\n"),
         ("until = 1970-01-01T00:00:00Z", "expected a timestamp in quotes\nin `until`\n"),
     ] {
-        let error = toml::from_str::<Optional>(rt.alloc(), text).err().ok_or("read")?;
-        assert_eq!(rt; error.to_string(rt.alloc())?.as_str(), message);
+        let json = serde_json::from_str::<Optional>(rt.alloc(), text).err().ok_or("read")?.to_string(rt.alloc())?;
+        let toml = toml::from_str::<Optional>(rt.alloc(), text).err().ok_or("read")?.to_string(rt.alloc())?;
+        assert_eq!(rt; if text.starts_with('{') { json.as_str() } else { toml.as_str() }, message);
     }
     let error = serde_json::from_str::<Values>(rt.alloc(), r#"{"wait":null}"#).err().ok_or("read")?;
     assert_eq!(rt; error.to_string(rt.alloc())?.as_str(), "expected a duration in quotes at line 1 column 9");
