@@ -1,14 +1,11 @@
 -- The position of an error in a text. A text is its bytes.
-use Rattle.std.specs.Prelude.{◌≡◌, ◌==◌, ◌+◌, ◌++◌, ⊤, Bool, ℕ, List, Option, None, Some, chars, codes, count_by, drop, not, string_bytes, take}
+use Rattle.std.specs.Prelude.{◌≡◌, ◌==◌, ◌+◌, ◌++◌, ⊤, ℕ, List, Option, None, Some, chars, codes, count_by, drop, not, string_bytes, take}
 use Rattle.std.specs.List.{after_last, before_first}
-use Rattle.std.specs.Str.{IsCharBoundary, byte}
+use Rattle.std.specs.Str.{IsCharBoundary}
+use Rattle.humantime_std.specs.Carets.{is_line_feed}
 use Rattle.humantime_settings.specs.declared.error.ErrorAt.{ErrorAt}
 use Rattle.humantime_settings.specs.declared.error.SettingsError.{SettingsError}
 use Rattle.humantime_settings.specs.declared.error.SettingsError.TheVariants.{At, OutOfMemory, WithoutPosition}
-
--- This byte ends a line.
-abbrev pub is_line_feed : ℕ → Bool
-is_line_feed b = b == byte "\n"
 
 -- Returns the number of the line of an offset, from 1.
 abbrev pub line_number : List ℕ → ℕ → ℕ

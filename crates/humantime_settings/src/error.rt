@@ -1,12 +1,10 @@
 //! The error of settings, and its position in a string.
 
-ghost use Rattle.std.specs.Prelude.{◌≡◌, ◌+◌, IfOk, count_by, string_bytes};
-ghost use Rattle.std.specs.List.{after_last, before_first};
-ghost use Rattle.humantime_settings.specs.Positions.{IsPositionIn, column_of, columns, is_line_feed, line_of, message_of};
+ghost use Rattle.std.specs.Prelude.{◌≡◌, ◌+◌, IfOk, string_bytes};
+ghost use Rattle.humantime_settings.specs.Positions.{IsPositionIn, column_of, columns, line_of, message_of};
 ghost use Rattle.humantime_settings.specs.declared.error.SettingsError.TheVariants.{OutOfMemory};
 
-use crate::error_range::ErrorRange;
-use humantime_std::located::Underline;
+use humantime_std::located::{Located, Underline};
 use std::alloc::{AllocError, Global};
 use std::error::Error;
 use std::fmt::{self, InlineText};
@@ -276,56 +274,32 @@ fn is_hidden(c: char) -> bool {
 impl Error for SettingsError {}
 
 /// Returns an error with its line. It begins where a character begins or the string ends, and ends with the line at the latest.
-pub(crate) fn error_at(alloc: Global, text: &str, error: ErrorRange) -> Result<ErrorAt, AllocError>
+pub(crate) fn error_at(
+    alloc: Global,
+    text: &str,
+    error: Located<String>,
+) -> Result<ErrorAt, AllocError>
     ensures { IfOk result (IsPositionIn text.now) }
 {
-    let offset = text.floor_char_boundary(error.start);
-    let (before, rest) = text.split_at(offset);
-    let line = first_line(rest);
+    let start = text.floor_char_boundary(error.start);
+    let place = Located {
+        error: (),
+        start,
+        end: start,
+    };
+    let report = place.report(text);
+    let line = report.rest;
     let len = error
         .end
-        .saturating_sub(offset)
+        .saturating_sub(start)
         .min(line.trim_end_matches('\r').len());
     let (part, after) = line.split_at(line.floor_char_boundary(len));
     Ok(ErrorAt {
-        offset,
-        line: line_number(before),
-        before: String::from_str(alloc, last_line(before))?,
+        offset: start,
+        line: report.number.unwrap_or(1),
+        before: String::from_str(alloc, report.underline.before)?,
         part: String::from_str(alloc, part)?,
         after: String::from_str(alloc, after)?,
-        message: error.message,
+        message: error.error,
     })
-}
-
-/// Returns the number of the last line of a string, from 1.
-fn line_number(text: &str) -> usize
-    ensures { result ≡ count_by is_line_feed text.now + 1 }
-{
-    let (mut line, bytes) = (1, text.as_bytes());
-    for byte in bytes {
-        if *byte == b'\n' {
-            line += 1;
-        }
-    }
-    line
-}
-
-/// Returns the string before the first line feed, or the whole string if it has none.
-fn first_line(text: &str) -> &str
-    ensures { result.now ≡ before_first is_line_feed text.now }
-{
-    match text.split_once('\n') {
-        Some((line, _)) => line,
-        None => text,
-    }
-}
-
-/// Returns the string after the last line feed, or the whole string if it has none.
-fn last_line(text: &str) -> &str
-    ensures { result.now ≡ after_last is_line_feed text.now }
-{
-    match text.rsplit_once('\n') {
-        Some((_, line)) => line,
-        None => text,
-    }
 }

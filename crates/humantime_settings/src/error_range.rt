@@ -8,25 +8,12 @@ use std::fmt::{Display, InlineText};
 /// A message as a field gives it to a format: its first 80 bytes, which end in dots if it is longer.
 pub(crate) type Message = InlineText<80>;
 
-/// What is wrong with a string, and where.
-#[derive(Drop)]
-pub(crate) struct ErrorRange {
-    pub message: String,
-    /// The offset of the first byte that is wrong.
-    pub start: usize,
-    /// The offset after the last byte that is wrong. It is `start` if only this is known.
-    pub end: usize,
-}
-
-impl ErrorRange {
-    /// Creates an error of which only the start is known.
-    pub(crate) fn at(start: usize, message: String) -> ErrorRange {
-        let end = start;
-        ErrorRange {
-            message,
-            start,
-            end,
-        }
+/// Creates an error of which only the start is known.
+pub(crate) fn error_from(start: usize, message: String) -> Located<String> {
+    Located {
+        error: message,
+        start,
+        end: start,
     }
 }
 
@@ -37,40 +24,29 @@ pub(crate) fn error_in(
     document: &str,
     at: usize,
     text: &str,
-) -> Result<Option<ErrorRange>, AllocError> {
-    let error = said_error(alloc, said, document, at, text, parse_duration(text).err())?;
-    if error.is_some() {
-        return Ok(error);
-    }
-    said_error(
-        alloc,
-        said,
-        document,
-        at,
-        text,
-        parse_rfc3339_weak(text).err(),
-    )
+) -> Result<Option<Located<String>>, AllocError> {
+    let found = match said_error(alloc, said, parse_duration(text).err())? {
+        None => said_error(alloc, said, parse_rfc3339_weak(text).err())?,
+        found => found,
+    };
+    let Some(Located { error, start, end }) = found else {
+        return Ok(None);
+    };
+    let literal = document.get(at..).unwrap_or("");
+    let (start, end) = raw_range(literal, text, start, end);
+    Ok(Some(Located { error, start, end }.after(at)))
 }
 
 /// Returns the error of a string, if `said` is its message.
 fn said_error<E: Display + Drop>(
     alloc: Global,
     said: &str,
-    document: &str,
-    at: usize,
-    text: &str,
     error: Option<Located<E>>,
-) -> Result<Option<ErrorRange>, AllocError> {
-    let Some(error) = error else {
+) -> Result<Option<Located<String>>, AllocError> {
+    let Some(Located { error, start, end }) = error else {
         return Ok(None);
     };
-    let message = error.to_string(alloc)?;
-    let is_said = Message::of(message.as_str()).as_str() == said;
-    let literal = document.get(at..).unwrap_or("");
-    let (start, end) = raw_range(literal, text, error.start, error.end);
-    Ok(is_said.then_some(ErrorRange {
-        message,
-        start: start.saturating_add(at),
-        end: end.saturating_add(at),
-    }))
+    let error = error.to_string(alloc)?;
+    let is_said = Message::of(error.as_str()).as_str() == said;
+    Ok(is_said.then_some(Located { error, start, end }))
 }

@@ -6,7 +6,7 @@ use serde::Kind;
 use std::alloc::{AllocError, Global};
 
 /// Returns the offset of a part of the value to which a path leads, and what is there. The path has, for each object and array, the number
-/// of the member or the item, from 0. At the end of an array, the number of its items is found.
+/// of the member or the item, from 0.
 pub(crate) fn found_at<'a>(
     alloc: Global,
     document: &'a str,
@@ -21,13 +21,14 @@ pub(crate) fn found_at<'a>(
         let (offset, token) = (reader.offset(), reader.next().unwrap_or(Token::Bad));
         let found = match token {
             Token::Key(_) => Part::Key,
-            Token::EndObject | Token::EndArray => Part::End,
+            Token::EndObject | Token::EndArray => {
+                numbers.pop();
+                Part::End
+            }
             _ => Part::Value,
         };
-        let is_end = found == Part::End;
-        let len = if is_end { numbers.pop() } else { None };
         if found == part && numbers.as_slice() == path {
-            return Ok((offset, described(alloc, token, len.unwrap_or(0))?));
+            return Ok((offset, described(alloc, token)?));
         }
         match (token, numbers.last_mut()) {
             (Token::BeginObject | Token::BeginArray, _) => numbers.push(0)?,
@@ -35,11 +36,11 @@ pub(crate) fn found_at<'a>(
             (_, Some(number)) => *number = number.saturating_add(1),
         }
     }
-    Ok((document.len(), described(alloc, Token::Bad, 0)?))
+    Ok((document.len(), described(alloc, Token::Bad)?))
 }
 
 /// Describes the value or the key that begins with a token.
-fn described<'a>(alloc: Global, token: Token<'a>, len: usize) -> Result<Found<'a>, AllocError> {
+fn described<'a>(alloc: Global, token: Token<'a>) -> Result<Found<'a>, AllocError> {
     let mut text = "";
     let (kind, words) = match token {
         Token::String(string) | Token::Key(string) => {
@@ -55,10 +56,5 @@ fn described<'a>(alloc: Global, token: Token<'a>, len: usize) -> Result<Found<'a
         Token::BeginArray => (Kind::Seq, String::from_str(alloc, "sequence")?),
         _ => (Kind::Map, String::from_str(alloc, "map")?),
     };
-    Ok(Found {
-        kind,
-        words,
-        text,
-        len,
-    })
+    Ok(Found { kind, words, text })
 }

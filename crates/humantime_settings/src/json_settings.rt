@@ -8,11 +8,12 @@ ghost use Rattle.serde_json.specs.Sent.{AreTokensOf};
 ghost use Rattle.humantime_settings.specs.Positions.{IsErrorIn};
 
 use crate::error::{SettingsError, error_at};
-use crate::error_range::ErrorRange;
+use crate::error_range::error_from;
 use crate::json_positions::found_at;
 use crate::json_syntax::syntax_error;
-use crate::rejection::{Cause, Part, Rejection, range_at};
+use crate::rejection::{Rejection, range_at};
 use crate::trace::Traced;
+use humantime_std::located::Located;
 use json::Scratch;
 use serde::{Deserialize, Serialize};
 use std::alloc::{AllocError, Global};
@@ -87,34 +88,19 @@ fn located<'a, T: Deserialize<'a>>(
     alloc: Global,
     text: &'a str,
     error: &serde_json::Error,
-) -> Result<ErrorRange, AllocError> {
+) -> Result<Located<String>, AllocError> {
     let mut scratch = Scratch::new(alloc);
     if !error.is_data() {
         if let Some((at, message)) = syntax_error(alloc, text, &mut scratch)? {
-            return Ok(ErrorRange::at(at, String::from_str(alloc, message)?));
+            return Ok(error_from(at, String::from_str(alloc, message)?));
         }
     }
-    match rejection_of::<T>(alloc, text)? {
-        Some(rejection) => rejected(alloc, text, &rejection),
-        None => Ok(ErrorRange::at(error_offset(text, error), message_of(alloc, error)?)),
-    }
-}
-
-/// Returns the error of a value.
-fn rejected(alloc: Global, text: &str, rejection: &Rejection) -> Result<ErrorRange, AllocError> {
+    let Some(rejection) = rejection_of::<T>(alloc, text)? else {
+        return Ok(error_from(error_offset(text, error), message_of(alloc, error)?));
+    };
     let mut scratch = Scratch::new(alloc);
-    let (at, mut found) = found_at(alloc, text, &rejection.path, rejection.part, &mut scratch)?;
-    if matches!(rejection.cause, Cause::Long(_) | Cause::Short) {
-        found.len = array_len(alloc, text, &rejection.path)?;
-    }
-    range_at(alloc, text, at, rejection, &found)
-}
-
-/// Returns how many items the array has to which a path leads.
-fn array_len(alloc: Global, text: &str, path: &[usize]) -> Result<usize, AllocError> {
-    let mut scratch = Scratch::new(alloc);
-    let (_, end) = found_at(alloc, text, path, Part::End, &mut scratch)?;
-    Ok(end.len)
+    let (at, found) = found_at(alloc, text, &rejection.path, rejection.part, &mut scratch)?;
+    range_at(alloc, text, at, &rejection, &found)
 }
 
 /// Returns why a document does not contain a value, or `None` if it is not JSON or contains one, or if the value borrows the string that

@@ -26,16 +26,16 @@ pub(crate) fn syntax_error<'a>(
         // Where the reader stands, or the comma or colon that it has passed.
         let passed = text.get(..stop).unwrap_or("").trim_end();
         let end = passed.strip_suffix([',', ':']).map_or(stop, str::len);
-        match (token, next) {
-            (Token::Key(_), Part::Key) => {}
-            (Token::String(_) | Token::Number(_) | Token::Bool(_) | Token::Null, Part::Value) => {}
-            (Token::BeginObject, Part::Value) if open.len() < 127 => open.push(true)?,
-            (Token::BeginArray, Part::Value) if open.len() < 127 => open.push(false)?,
-            (Token::EndObject, _) if may_close && in_object == Some(true) => drop(open.pop()),
-            (Token::EndArray, _) if may_close && in_object == Some(false) => drop(open.pop()),
-            (Token::Bad, Part::End) if at == text.len() && in_object.is_none() => break,
-            (Token::String(_), Part::Key) => return Ok(Some((end, "expected `:`"))),
-            (Token::Key(_), Part::Value) => {
+        match (token, next, in_object) {
+            (Token::Key(_), Part::Key, _) | (Token::Bool(_) | Token::Null, Part::Value, _) => {}
+            (Token::String(_) | Token::Number(_), Part::Value, _) => {}
+            (Token::BeginObject, Part::Value, _) if open.len() < 127 => open.push(true)?,
+            (Token::BeginArray, Part::Value, _) if open.len() < 127 => open.push(false)?,
+            (Token::EndObject, _, Some(true)) if may_close => drop(open.pop()),
+            (Token::EndArray, _, Some(false)) if may_close => drop(open.pop()),
+            (Token::Bad, Part::End, None) if at == text.len() => break,
+            (Token::String(_), Part::Key, _) => return Ok(Some((end, "expected `:`"))),
+            (Token::Key(_), Part::Value, _) => {
                 return Ok(Some((end, why(front, ":", Part::End, in_object))));
             }
             _ => return Ok(Some((at, why(front, rest, next, in_object)))),
@@ -46,10 +46,13 @@ pub(crate) fn syntax_error<'a>(
 
 /// Returns what comes next behind this: a key, a value, or the comma or bracket at its end.
 fn next_behind(front: &str, in_object: Option<bool>) -> Part {
-    match (front.as_bytes().last(), in_object) {
-        (Some(b'{'), _) | (Some(b','), Some(true)) => Part::Key,
-        (None | Some(b':' | b'[' | b','), _) => Part::Value,
-        _ => Part::End,
+    let is_comma = front.ends_with(',');
+    if front.ends_with('{') || is_comma && matches!(in_object, Some(true)) {
+        Part::Key
+    } else if is_comma || front.is_empty() || front.ends_with([':', '[']) {
+        Part::Value
+    } else {
+        Part::End
     }
 }
 

@@ -1,6 +1,7 @@
 //! Where and why a document does not contain a value.
 
-use crate::error_range::{ErrorRange, error_in};
+use crate::error_range::{error_from, error_in};
+use humantime_std::located::Located;
 use serde::Kind;
 use std::alloc::{AllocError, Global};
 
@@ -24,7 +25,7 @@ pub(crate) enum Part {
 }
 
 /// Why a value is rejected, and what its words are.
-#[derive(Clone, Copy, PartialEq, Eq, Drop)]
+#[derive(Clone, Copy, Drop)]
 pub(crate) enum Cause {
     /// The message.
     Message,
@@ -35,15 +36,24 @@ pub(crate) enum Cause {
     /// What is expected behind the name of the field or of the variant.
     UnknownField,
     UnknownVariant,
+    /// It is a sequence with too many items. The message.
+    Long,
+    // The others have no words.
     Duplicate,
-    /// A sequence has more items than this.
-    Long(usize),
-    /// A sequence has fewer items.
-    Short,
+    /// It is an integer that the type does not contain.
+    Range,
+    NoUnit,
+    /// It is the name of a variant that has data.
+    NoData,
+    /// It is a map with no key, or with a second one, where that of a variant is expected.
+    NoVariant,
+    TwoVariants,
+    /// It is no variant of an untagged enum.
+    NoMatch,
+    Invalid,
+    /// The type rejects the empty string that it has in place of one that it borrows.
+    Borrowed,
 }
-
-/// What is expected of an integer that the type does not contain.
-pub(crate) const RANGE: &str = "an integer in range";
 
 /// What a document has where an error is.
 #[derive(Drop)]
@@ -53,8 +63,6 @@ pub(crate) struct Found<'a> {
     pub words: String,
     /// The key or the string, if it is one.
     pub text: &'a str,
-    /// The number of items.
-    pub len: usize,
 }
 
 /// Returns the error of what a document has at this offset.
@@ -64,39 +72,43 @@ pub(crate) fn range_at(
     at: usize,
     rejection: &Rejection,
     found: &Found<'_>,
-) -> Result<ErrorRange, AllocError> {
+) -> Result<Located<String>, AllocError> {
     let message = message(alloc, rejection, found)?;
     if found.kind == Kind::Str {
         if let Some(error) = error_in(alloc, &message, document, at, found.text)? {
             return Ok(error);
         }
     }
-    Ok(ErrorRange::at(at, message))
+    Ok(error_from(at, message))
 }
 
 fn message(alloc: Global, rejection: &Rejection, found: &Found<'_>) -> Result<String, AllocError> {
-    let words = rejection.words.as_str();
-    let (text, len) = (found.text, found.len);
-    match rejection.cause {
-        Cause::Message => String::from_str(alloc, words),
-        Cause::Missing => format!(in alloc; "missing field `{words}`"),
-        Cause::UnknownField => format!(in alloc; "unknown field `{text}`{words}"),
-        Cause::UnknownVariant => format!(in alloc; "unknown variant `{text}`{words}"),
-        Cause::Duplicate => format!(in alloc; "duplicate field `{text}`"),
-        Cause::Long(size) => {
-            format!(in alloc; "invalid length {len}, expected a tuple of size {size}")
+    let (words, text, value) = (rejection.words.as_str(), found.text, &found.words);
+    let message = match rejection.cause {
+        Cause::Missing => return format!(in alloc; "missing field `{words}`"),
+        Cause::UnknownField => return format!(in alloc; "unknown field `{text}`{words}"),
+        Cause::UnknownVariant => return format!(in alloc; "unknown variant `{text}`{words}"),
+        Cause::Duplicate => return format!(in alloc; "duplicate field `{text}`"),
+        Cause::NoUnit => return format!(in alloc; "invalid type: {value}, expected unit"),
+        Cause::Range => {
+            return format!(in alloc; "invalid value: {value}, expected an integer in range");
         }
-        Cause::Short => format!(in alloc; "invalid length {len}"),
         Cause::Expected => {
             let (what, expected) = match (words, found.kind) {
-                ("an integer", Kind::Signed) => ("value", RANGE),
-                (RANGE, _)
-                | ("a character", Kind::Str)
-                | ("byte array", Kind::Seq)
-                | ("f32", Kind::Float) => ("value", words),
+                ("an integer", Kind::Signed) => ("value", "an integer in range"),
+                ("a character", Kind::Str) | ("byte array", Kind::Seq) | ("f32", Kind::Float) => (
+                    "value", words,
+                ),
                 _ => ("type", words),
             };
-            format!(in alloc; "invalid {what}: {}, expected {expected}", found.words)
+            return format!(in alloc; "invalid {what}: {value}, expected {expected}");
         }
-    }
+        Cause::Message | Cause::Long => words,
+        Cause::NoData => "invalid type: unit variant, expected a variant with data",
+        Cause::NoVariant => "wanted exactly 1 element, found 0 elements",
+        Cause::TwoVariants => "wanted exactly 1 element, more than 1 element",
+        Cause::NoMatch => "data did not match any variant of untagged enum",
+        Cause::Invalid | Cause::Borrowed => "invalid value",
+    };
+    String::from_str(alloc, message)
 }

@@ -5,10 +5,11 @@ ghost use Rattle.toml.specs.Parse.{parse_document};
 ghost use Rattle.humantime_settings.specs.Positions.{IsErrorIn};
 
 use crate::error::{SettingsError, error_at};
-use crate::error_range::ErrorRange;
+use crate::error_range::error_from;
 use crate::rejection::{Cause, Found, Part, Rejection, range_at};
 use crate::toml_positions::{Step, entry_of, wrong_part};
 use crate::trace::Traced;
+use humantime_std::located::Located;
 use serde::{DeserializeOwned, Kind, Serialize};
 use std::alloc::{AllocError, Global};
 use toml::Value;
@@ -105,12 +106,16 @@ fn document_error(
     if is(ErrorKind::DuplicateKey) || is(ErrorKind::Extend) {
         at = wrong_part(alloc, text, at)?;
     }
-    let error = ErrorRange::at(at, String::from_str(alloc, error.message())?);
+    let error = error_from(at, String::from_str(alloc, error.message())?);
     Ok(SettingsError::At(error_at(alloc, text, error)?))
 }
 
 /// Returns the error of a value.
-fn located(alloc: Global, text: &str, mut rejection: Rejection) -> Result<ErrorRange, AllocError> {
+fn located(
+    alloc: Global,
+    text: &str,
+    mut rejection: Rejection,
+) -> Result<Located<String>, AllocError> {
     let Ok(table) = toml::table_from_str(alloc, text) else {
         return Err(AllocError);
     };
@@ -158,24 +163,19 @@ fn way<'a>(
 
 /// Describes a value.
 fn described(alloc: Global, value: &Value) -> Result<Found<'_>, AllocError> {
-    let mut len = 0;
     let (kind, words) = match value {
         Value::String(text) => return described_text(alloc, text),
         Value::Integer(n) => (Kind::Signed, format!(in alloc; "integer `{n}`")?),
         Value::Float(x) => (Kind::Float, format!(in alloc; "floating point `{x:?}`")?),
         Value::Boolean(b) => (Kind::Bool, format!(in alloc; "boolean `{b}`")?),
         Value::Datetime(_) => (Kind::Map, String::from_str(alloc, "datetime")?),
-        Value::Array(items) => {
-            len = items.len();
-            (Kind::Seq, String::from_str(alloc, "sequence")?)
-        }
+        Value::Array(_) => (Kind::Seq, String::from_str(alloc, "sequence")?),
         Value::Table(_) => (Kind::Map, String::from_str(alloc, "map")?),
     };
     Ok(Found {
         kind,
         words,
         text: "",
-        len,
     })
 }
 
@@ -186,7 +186,6 @@ fn described_text(alloc: Global, text: &str) -> Result<Found<'_>, AllocError> {
         kind: Kind::Str,
         words,
         text,
-        len: 0,
     })
 }
 

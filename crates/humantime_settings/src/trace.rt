@@ -1,8 +1,9 @@
 //! A format that passes each step on to another one and counts the steps: it tells where and why the reading of a value fails.
 
-use crate::rejection::{Cause, Part, RANGE, Rejection};
+use crate::rejection::{Cause, Part, Rejection};
 use serde::{Case, Deserialize, DeserializeOwned, Deserializer, Format, Kind, Name, NameKind};
 use std::alloc::{AllocError, Global};
+use std::fmt::InlineText;
 
 /// A value, or where and why a document does not contain it.
 #[derive(Drop)]
@@ -14,7 +15,7 @@ impl<T: DeserializeOwned> DeserializeOwned for Traced<T> {
         from: &mut Deserializer<'_, '_, F>,
     ) -> Result<Traced<T>, F::Error> {
         let mut trace = Trace::new(alloc, from);
-        match trace.read_owned::<T>() {
+        match trace.read_owned::<T>(alloc) {
             Ok(value) => Ok(Traced(Ok(value))),
             Err(stop) => Ok(Traced(Err(trace.rejection_of(stop)?))),
         }
@@ -32,7 +33,7 @@ impl<'de, T: Deserialize<'de>> Deserialize<'de> for Traced<T> {
         let start = from.mark();
         from.release(start);
         let mut trace = Trace::new(alloc, from);
-        let rejection = match trace.read::<T>() {
+        let rejection = match trace.read::<T>(alloc) {
             Ok(value) => return Ok(Traced(Ok(value))),
             Err(stop) => trace.rejection_of(stop)?,
         };
@@ -40,6 +41,23 @@ impl<'de, T: Deserialize<'de>> Deserialize<'de> for Traced<T> {
         pass_rest(from);
         Ok(Traced(Err(rejection)))
     }
+}
+
+/// Returns what is said of a sequence, the last item of which is one too many. Passes the items that are left.
+fn long<F: Format>(
+    alloc: Global,
+    from: &mut Deserializer<'_, '_, F>,
+    counts: &[usize],
+) -> Result<String, AllocError> {
+    let mut len = counts.last().copied().unwrap_or(1);
+    let size = len.saturating_sub(1);
+    for _ in 0..u64::MAX {
+        if from.skip().is_err() || !from.next_item().unwrap_or(false) {
+            break;
+        }
+        len = len.saturating_add(1);
+    }
+    format!(in alloc; "invalid length {len}, expected a tuple of size {size}")
 }
 
 /// Passes the tokens that are left: one that closes a sequence as its end, and any other as a key.
@@ -53,75 +71,50 @@ fn pass_rest<F: Format>(from: &mut Deserializer<'_, '_, F>) {
     }
 }
 
-/// What is said of a map with no key or a second one, where that of a variant is expected.
-const NO_VARIANT: &str = "wanted exactly 1 element, found 0 elements";
-
-const TWO_VARIANTS: &str = "wanted exactly 1 element, more than 1 element";
-
-/// What is said of the name of a variant that has data, and of a value that is no variant of an untagged enum.
-const NO_DATA: &str = "invalid type: unit variant, expected a variant with data";
-
-const NO_MATCH: &str = "data did not match any variant of untagged enum";
-
 /// Why a step fails.
 #[derive(Drop)]
-pub(crate) enum Stop {
+enum Stop<E> {
     /// For another reason than the value.
-    Fatal,
-    At(Box<Rejection>),
+    Fatal(E),
+    At(Rejection),
     /// The last variant is unknown.
     Variant,
-    /// The type rejects the empty string that it has in place of one that it borrows.
-    Borrowed,
-}
-
-/// What the next step reads, or the last one has read.
-#[derive(Clone, Copy, PartialEq, Eq, Drop)]
-enum At {
-    /// The next one reads the key of an entry.
-    Entry,
-    Key,
-    Value,
-}
-
-/// The last step, where it tells why the type rejects what it has read.
-#[derive(Clone, Copy, PartialEq, Eq, Drop)]
-enum Last {
-    Integer,
-    /// A string of the document that the type borrows, in place of which it has an empty one.
-    Borrowed,
-    NoUnit,
-    /// The name of a variant, without data.
-    Variant,
-    /// The end of a map without a variant.
-    NoVariant,
-    /// A key behind that of a variant.
-    SecondKey,
-    /// The end of a map without the only key that is looked up.
-    NoKey,
-    Item,
-    Rewind,
-    Other,
 }
 
 /// The format of another deserializer.
 #[derive(Drop)]
 struct Trace<'a, 'de, 's, F: Format> {
     from: &'a mut Deserializer<'de, 's, F>,
+    steps: Steps,
+}
+
+/// The steps so far.
+#[derive(Drop)]
+struct Steps {
     alloc: Global,
     /// For each open map and sequence, how many entries or items have begun.
     counts: Vec<usize>,
-    at: At,
-    last: Last,
-    /// The keys that `rename_all` makes, of the maps in the current one: how many maps and sequences are open there, the name of the field,
-    /// and the key.
-    renamed: Vec<(usize, String, String)>,
+    /// What of an entry or an item the last step has read, and what the next one reads.
+    part: Part,
+    next: Part,
+    /// Why the type rejects what has been read, if it does. It is `Long` if another item has begun.
+    cause: Cause,
     /// The names that were expected in place of the last key, or the key that is missing.
     words: String,
+    /// The keys that `rename_all` makes, of the maps in the current one.
+    renamed: Vec<Renamed>,
     /// The last variant, if it is unknown.
     variant: Option<Rejection>,
-    /// The fatal error. If there is none, an allocation failed.
-    error: Option<F::Error>,
+    /// The count of the map or sequence that has ended last.
+    ended: usize,
+}
+
+/// A key that is not the name of its field, in a map where so many maps and sequences are open.
+#[derive(Drop)]
+struct Renamed {
+    open: usize,
+    name: String,
+    key: String,
 }
 
 /// A position to come back to: that of the other format, the number of open maps and sequences, and the count of the last one.
@@ -130,106 +123,116 @@ struct Back<M> {
     mark: M,
     open: usize,
     count: usize,
-    at: At,
+    next: Part,
 }
 
 impl<'a, 'de, 's, F: Format> Trace<'a, 'de, 's, F> {
     fn new(alloc: Global, from: &'a mut Deserializer<'de, 's, F>) -> Self {
         Trace {
             from,
-            alloc,
-            counts: Vec::new(alloc),
-            at: At::Value,
-            last: Last::Other,
-            renamed: Vec::new(alloc),
-            words: String::new(alloc),
-            variant: None,
-            error: None,
+            steps: Steps {
+                alloc,
+                counts: Vec::new(alloc),
+                part: Part::Value,
+                next: Part::Value,
+                cause: Cause::Invalid,
+                words: String::new(alloc),
+                renamed: Vec::new(alloc),
+                variant: None,
+                ended: 0,
+            },
         }
     }
 
-    fn read_owned<T: DeserializeOwned>(&mut self) -> Result<T, Stop> {
-        T::deserialize_owned(self.alloc, &mut Deserializer::new(&[], self))
+    fn read_owned<T: DeserializeOwned>(&mut self, alloc: Global) -> Result<T, Stop<F::Error>> {
+        T::deserialize_owned(alloc, &mut Deserializer::new(&[], self))
     }
 
-    fn read<T: Deserialize<'de>>(&mut self) -> Result<T, Stop> {
-        T::deserialize(self.alloc, &mut Deserializer::new(&[], self))
+    fn read<T: Deserialize<'de>>(&mut self, alloc: Global) -> Result<T, Stop<F::Error>> {
+        T::deserialize(alloc, &mut Deserializer::new(&[], self))
     }
 
     /// Returns why the reading has ended.
-    fn rejection_of(self, stop: Stop) -> Result<Rejection, F::Error> {
-        let Trace {
-            from,
-            variant,
-            error,
-            ..
-        } = self;
-        match (stop, variant, error) {
-            (Stop::At(rejection), _, _) => Ok(Box::into_inner(rejection)),
-            (Stop::Variant, Some(rejection), _) => Ok(rejection),
-            (Stop::Borrowed, _, _) => Err(from.invalid()),
-            (_, _, Some(error)) => Err(error),
-            _ => Err(from.no_memory()),
-        }
-    }
-
-    /// Begins to read a value or a key, and returns the other deserializer.
-    #[inline(always)]
-    fn value(&mut self) -> &mut Deserializer<'de, 's, F> {
-        self.at = match self.at {
-            At::Entry => At::Key,
-            _ => At::Value,
+    fn rejection_of(self, stop: Stop<F::Error>) -> Result<Rejection, F::Error> {
+        let Trace { from, steps } = self;
+        let mut rejection = match (stop, steps.variant) {
+            (Stop::Fatal(error), _) => return Err(error),
+            (Stop::At(rejection), _) | (Stop::Variant, Some(rejection)) => rejection,
+            (Stop::Variant, None) => return Err(from.invalid()),
         };
-        self.last = Last::Other;
-        self.from
+        match rejection.cause {
+            Cause::Borrowed => Err(from.invalid()),
+            Cause::Long => match long(steps.alloc, from, &steps.counts) {
+                Ok(words) => {
+                    rejection.words = words;
+                    Ok(rejection)
+                }
+                Err(_) => Err(from.no_memory()),
+            },
+            _ => Ok(rejection),
+        }
     }
 
     /// Returns what a step has read, or that something else is expected.
     #[inline(always)]
-    fn told<V>(&mut self, read: Result<V, F::Error>, expected: &str) -> Result<V, Stop> {
+    fn told<V>(&mut self, read: Result<V, F::Error>, expected: &str) -> Result<V, Stop<F::Error>> {
+        self.steps.read();
         match read {
             Ok(value) => Ok(value),
-            Err(error) => Err(self.failed(error, expected)),
+            Err(error) => Err(self.failed(error, self.steps.part, Cause::Expected, expected)),
+        }
+    }
+
+    /// Returns what a step has seen that reads no value. In TOML, a table without the key of a variant is an error of such a step.
+    #[inline(always)]
+    fn seen<V>(&self, read: Result<V, F::Error>) -> Result<V, Stop<F::Error>> {
+        match read {
+            Ok(value) => Ok(value),
+            Err(error) => Err(self.failed(error, Part::End, Cause::NoVariant, "")),
         }
     }
 
     #[inline(never)]
-    fn failed(&mut self, error: F::Error, expected: &str) -> Stop {
+    fn failed(&self, error: F::Error, part: Part, cause: Cause, words: &str) -> Stop<F::Error> {
         if self.from.is_fatal(&error) {
-            self.error = Some(error);
-            return Stop::Fatal;
-        }
-        self.stop(self.part(), Cause::Expected, expected)
-    }
-
-    /// Returns whether a step has taken a unit.
-    fn took(&mut self, taken: Result<bool, F::Error>) -> Result<bool, Stop> {
-        let is_taken = self.told(taken, "a value")?;
-        if is_taken {
-            self.value();
+            Stop::Fatal(error)
         } else {
-            self.last = Last::NoUnit;
-        }
-        Ok(is_taken)
-    }
-
-    /// Returns which part of the current entry has been read.
-    fn part(&self) -> Part {
-        match self.at {
-            At::Value => Part::Value,
-            _ => Part::Key,
+            self.stop(part, cause, words)
         }
     }
 
     /// Returns an error at the current position.
-    fn stop(&self, part: Part, cause: Cause, words: &str) -> Stop {
-        let Ok(rejection) = self.rejection(part, cause, words) else {
-            return Stop::Fatal;
-        };
-        match Box::new(self.alloc, rejection) {
+    fn stop(&self, part: Part, cause: Cause, words: &str) -> Stop<F::Error> {
+        match self.steps.rejection(part, cause, words) {
             Ok(rejection) => Stop::At(rejection),
-            Err(_) => Stop::Fatal,
+            Err(_) => self.no_memory(),
         }
+    }
+
+    /// Opens a map or a sequence.
+    fn open(&mut self) -> Result<(), Stop<F::Error>> {
+        match self.steps.counts.push(0) {
+            Ok(()) => Ok(()),
+            Err(_) => Err(self.no_memory()),
+        }
+    }
+
+    /// Returns whether a step has taken a unit.
+    fn took(&mut self, taken: Result<bool, F::Error>) -> Result<bool, Stop<F::Error>> {
+        let is_taken = self.seen(taken)?;
+        if is_taken {
+            self.steps.read();
+        } else {
+            (self.steps.part, self.steps.cause) = (self.steps.next, Cause::NoUnit);
+        }
+        Ok(is_taken)
+    }
+}
+
+impl Steps {
+    /// Reads what is next.
+    fn read(&mut self) {
+        (self.part, self.next, self.cause) = (self.next, Part::Value, Cause::Invalid);
     }
 
     fn rejection(&self, part: Part, cause: Cause, words: &str) -> Result<Rejection, AllocError> {
@@ -240,7 +243,7 @@ impl<'a, 'de, 's, F: Format> Trace<'a, 'de, 's, F> {
                 path.push(*count - 1)?;
             }
         }
-        if let Cause::Long(_) = cause {
+        if matches!(cause, Cause::Long) {
             // It is the sequence that has an item too many.
             path.pop();
         }
@@ -253,23 +256,17 @@ impl<'a, 'de, 's, F: Format> Trace<'a, 'de, 's, F> {
         })
     }
 
-    /// Opens a map or a sequence.
-    fn open(&mut self) -> Result<(), Stop> {
-        self.counts.push(0).map_err(|_| Stop::Fatal)
-    }
-
     /// Begins another entry or item, or closes the map or the sequence.
-    #[inline(always)]
-    fn pass(&mut self, is_more: bool, at: At) {
-        (self.at, self.last) = (At::Value, Last::Other);
+    fn pass(&mut self, is_more: bool, part: Part, next: Part) {
+        (self.part, self.next, self.cause) = (part, next, Cause::Invalid);
         if !is_more {
-            self.counts.pop();
+            (self.part, self.next) = (Part::Value, Part::Value);
+            self.ended = self.counts.pop().unwrap_or(0);
             return;
         }
-        self.at = at;
         if !self.renamed.is_empty() {
             let open = self.counts.len();
-            self.renamed.retain(|renamed| renamed.0 < open);
+            self.renamed.retain(|renamed| renamed.open < open);
         }
         if let Some(count) = self.counts.last_mut() {
             *count = count.saturating_add(1);
@@ -277,16 +274,15 @@ impl<'a, 'de, 's, F: Format> Trace<'a, 'de, 's, F> {
     }
 
     /// Keeps what errors of the next key tell of these names. `found` is the key, or `None` at the end of the map.
-    #[inline(never)]
     fn keep(&mut self, found: Option<usize>, names: &[Name<'_>]) -> Result<(), AllocError> {
         let are_variants = names.iter().any(|name| name.kind == NameKind::Variant);
         match (found, names) {
-            (Some(_), []) => self.last = Last::SecondKey,
+            (Some(_), []) => self.cause = Cause::TwoVariants,
             (Some(_), _) if are_variants => self.keep_variant(names)?,
             (Some(_), _) => expect(names, "fields", &mut self.words)?,
-            (None, _) if are_variants => self.last = Last::NoVariant,
+            (None, _) if are_variants => (self.part, self.cause) = (Part::End, Cause::NoVariant),
             (None, [name]) => {
-                self.last = Last::NoKey;
+                (self.part, self.cause) = (Part::End, Cause::Missing);
                 self.words.clear();
                 name.case.append(name.kind, name.name, &mut self.words)?;
                 self.rename(names)?;
@@ -299,8 +295,7 @@ impl<'a, 'de, 's, F: Format> Trace<'a, 'de, 's, F> {
     /// Keeps that the last key or string is none of these variants.
     fn keep_variant(&mut self, names: &[Name<'_>]) -> Result<(), AllocError> {
         expect(names, "variants", &mut self.words)?;
-        let part = self.part();
-        self.variant = Some(self.rejection(part, Cause::UnknownVariant, self.words.as_str())?);
+        self.variant = Some(self.rejection(self.part, Cause::UnknownVariant, self.words.as_str())?);
         Ok(())
     }
 
@@ -311,7 +306,8 @@ impl<'a, 'de, 's, F: Format> Trace<'a, 'de, 's, F> {
                 let mut key = String::new(self.alloc);
                 name.case.append(name.kind, name.name, &mut key)?;
                 let name = String::from_str(self.alloc, name.name)?;
-                self.renamed.push((self.counts.len(), name, key))?;
+                let open = self.counts.len();
+                self.renamed.push(Renamed { open, name, key })?;
             }
         }
         Ok(())
@@ -321,17 +317,18 @@ impl<'a, 'de, 's, F: Format> Trace<'a, 'de, 's, F> {
 /// Replaces words by what is said of these names behind one that is unknown.
 fn expect(names: &[Name<'_>], what: &str, words: &mut String) -> Result<(), AllocError> {
     words.clear();
-    let count = names.iter().filter(|name| !name.skipped).count();
-    if count == 0 {
-        words.push_str(", there are no ")?;
-        return words.push_str(what);
+    let mut count = 0_usize;
+    for name in names {
+        count = count.saturating_add(!name.skipped as usize);
     }
-    words.push_str(if count > 2 {
-        ", expected one of "
-    } else {
-        ", expected "
-    })?;
-    let mut before = "`";
+    let (mut before, next) = match count {
+        0 => {
+            words.push_str(", there are no ")?;
+            return words.push_str(what);
+        }
+        1 | 2 => (", expected `", " or `"),
+        _ => (", expected one of `", ", `"),
+    };
     for name in names {
         if name.skipped {
             continue;
@@ -339,117 +336,113 @@ fn expect(names: &[Name<'_>], what: &str, words: &mut String) -> Result<(), Allo
         words.push_str(before)?;
         name.case.append(name.kind, name.name, words)?;
         words.push('`')?;
-        before = if count == 2 { " or `" } else { ", `" };
+        before = next;
     }
     Ok(())
 }
 
 impl<F: Format> Format for Trace<'_, '_, '_, F> {
-    type Error = Stop;
+    type Error = Stop<F::Error>;
 
     type Mark = Back<F::Mark>;
 
-    fn bool(&mut self, _input: &[u8]) -> Result<bool, Stop> {
-        let read = self.value().bool();
+    fn bool(&mut self, _input: &[u8]) -> Result<bool, Stop<F::Error>> {
+        let read = self.from.bool();
         self.told(read, "a boolean")
     }
 
-    #[inline(always)]
-    fn i64(&mut self, _input: &[u8]) -> Result<i64, Stop> {
-        let read = self.value().i64();
-        self.last = Last::Integer;
+    fn i64(&mut self, _input: &[u8]) -> Result<i64, Stop<F::Error>> {
+        let read = self.from.i64();
+        let read = self.told(read, "an integer");
+        self.steps.cause = Cause::Range;
+        read
+    }
+
+    fn u64(&mut self, _input: &[u8]) -> Result<u64, Stop<F::Error>> {
+        let read = self.from.u64();
+        let read = self.told(read, "an integer");
+        self.steps.cause = Cause::Range;
+        read
+    }
+
+    fn i128(&mut self, _input: &[u8]) -> Result<i128, Stop<F::Error>> {
+        let read = self.from.i128();
         self.told(read, "an integer")
     }
 
-    #[inline(always)]
-    fn u64(&mut self, _input: &[u8]) -> Result<u64, Stop> {
-        let read = self.value().u64();
-        self.last = Last::Integer;
+    fn u128(&mut self, _input: &[u8]) -> Result<u128, Stop<F::Error>> {
+        let read = self.from.u128();
         self.told(read, "an integer")
     }
 
-    fn i128(&mut self, _input: &[u8]) -> Result<i128, Stop> {
-        let read = self.value().i128();
-        self.told(read, "an integer")
-    }
-
-    fn u128(&mut self, _input: &[u8]) -> Result<u128, Stop> {
-        let read = self.value().u128();
-        self.told(read, "an integer")
-    }
-
-    fn f32(&mut self, _input: &[u8]) -> Result<f32, Stop> {
-        let read = self.value().f32();
+    fn f32(&mut self, _input: &[u8]) -> Result<f32, Stop<F::Error>> {
+        let read = self.from.f32();
         self.told(read, "f32")
     }
 
-    fn f64(&mut self, _input: &[u8]) -> Result<f64, Stop> {
-        let read = self.value().f64();
+    fn f64(&mut self, _input: &[u8]) -> Result<f64, Stop<F::Error>> {
+        let read = self.from.f64();
         self.told(read, "f64")
     }
 
-    fn char(&mut self, _input: &[u8]) -> Result<char, Stop> {
-        let read = self.value().char();
+    fn char(&mut self, _input: &[u8]) -> Result<char, Stop<F::Error>> {
+        let read = self.from.char();
         self.told(read, "a character")
     }
 
-    fn plain_str(&mut self, _input: &[u8]) -> Result<(usize, usize), Stop> {
-        let read = self.value().borrowed_str();
-        self.last = Last::Borrowed;
+    fn plain_str(&mut self, _input: &[u8]) -> Result<(usize, usize), Stop<F::Error>> {
+        let read = self.from.borrowed_str();
         self.told(read, "a borrowed string")?;
+        self.steps.cause = Cause::Borrowed;
         Ok((0, 0))
     }
 
-    fn plain_bytes(&mut self, input: &[u8]) -> Result<(usize, usize), Stop> {
+    fn plain_bytes(&mut self, input: &[u8]) -> Result<(usize, usize), Stop<F::Error>> {
         self.plain_str(input)
     }
 
-    #[inline(always)]
-    fn string(&mut self, alloc: Global, _input: &[u8]) -> Result<String, Stop> {
-        let read = self.value().string(alloc);
+    fn string(&mut self, alloc: Global, _input: &[u8]) -> Result<String, Stop<F::Error>> {
+        let read = self.from.string(alloc);
         self.told(read, "a string")
     }
 
-    fn byte_buf(&mut self, alloc: Global, _input: &[u8]) -> Result<Vec<u8>, Stop> {
-        let read = self.value().byte_buf(alloc);
+    fn byte_buf(&mut self, alloc: Global, _input: &[u8]) -> Result<Vec<u8>, Stop<F::Error>> {
+        let read = self.from.byte_buf(alloc);
         self.told(read, "byte array")
     }
 
-    fn peek(&mut self, _input: &[u8]) -> Result<Kind, Stop> {
+    fn peek(&mut self, _input: &[u8]) -> Result<Kind, Stop<F::Error>> {
         let kind = self.from.peek();
-        self.told(kind, "a value")
+        self.seen(kind)
     }
 
-    fn take_unit(&mut self, _input: &[u8]) -> Result<bool, Stop> {
+    fn take_unit(&mut self, _input: &[u8]) -> Result<bool, Stop<F::Error>> {
         let taken = self.from.take_unit();
         self.took(taken)
     }
 
-    #[inline(always)]
-    fn take_none(&mut self, _input: &[u8]) -> Result<bool, Stop> {
+    fn take_none(&mut self, _input: &[u8]) -> Result<bool, Stop<F::Error>> {
         let taken = self.from.take_none();
         self.took(taken)
     }
 
-    #[inline(always)]
-    fn begin_seq(&mut self, _input: &[u8]) -> Result<(), Stop> {
-        let begun = self.value().begin_seq();
+    fn begin_seq(&mut self, _input: &[u8]) -> Result<(), Stop<F::Error>> {
+        let begun = self.from.begin_seq();
         self.told(begun, "a sequence")?;
         self.open()
     }
 
-    #[inline(always)]
-    fn next_item(&mut self, _input: &[u8]) -> Result<bool, Stop> {
+    fn next_item(&mut self, _input: &[u8]) -> Result<bool, Stop<F::Error>> {
         let is_more = self.from.next_item();
-        let is_more = self.told(is_more, "an item")?;
-        self.pass(is_more, At::Value);
+        let is_more = self.seen(is_more)?;
+        self.steps.pass(is_more, Part::Value, Part::Value);
         if is_more {
-            self.last = Last::Item;
+            self.steps.cause = Cause::Long;
         }
         Ok(is_more)
     }
 
-    fn end_tuple(&mut self, _input: &[u8]) -> Result<(), Stop> {
+    fn end_tuple(&mut self, _input: &[u8]) -> Result<(), Stop<F::Error>> {
         if self.next_item(&[])? {
             Err(self.wrong_len())
         } else {
@@ -457,77 +450,71 @@ impl<F: Format> Format for Trace<'_, '_, '_, F> {
         }
     }
 
-    #[inline(always)]
-    fn begin_struct(&mut self, _input: &[u8]) -> Result<bool, Stop> {
-        let begun = self.value().begin_struct();
+    fn begin_struct(&mut self, _input: &[u8]) -> Result<bool, Stop<F::Error>> {
+        let begun = self.from.begin_struct();
         let is_seq = self.told(begun, "a map")?;
         self.open()?;
         Ok(is_seq)
     }
 
-    fn begin_map(&mut self, _input: &[u8]) -> Result<(), Stop> {
-        let begun = self.value().begin_map();
+    fn begin_map(&mut self, _input: &[u8]) -> Result<(), Stop<F::Error>> {
+        let begun = self.from.begin_map();
         self.told(begun, "a map")?;
         self.open()
     }
 
-    #[inline(always)]
-    fn next_key(&mut self, _input: &[u8], names: &[Name<'_>]) -> Result<Option<usize>, Stop> {
-        let found = match self.from.next_key(names) {
-            // Of TOML, in a table or a date-time.
-            Err(error) if !self.from.is_fatal(&error) => {
-                return Err(self.stop(Part::End, Cause::Message, NO_VARIANT));
-            }
-            found => self.told(found, "a key")?,
-        };
-        self.pass(found.is_some(), At::Key);
+    fn next_key(
+        &mut self,
+        _input: &[u8],
+        names: &[Name<'_>],
+    ) -> Result<Option<usize>, Stop<F::Error>> {
+        let found = self.from.next_key(names);
+        let found = self.seen(found)?;
+        self.steps.pass(found.is_some(), Part::Key, Part::Value);
         let is_known = found.is_some_and(|at| at < names.len());
-        if !is_known && self.keep(found, names).is_err() {
-            return Err(Stop::Fatal);
+        if !is_known && self.steps.keep(found, names).is_err() {
+            return Err(self.no_memory());
         }
         Ok(found)
     }
 
-    fn next_entry(&mut self, _input: &[u8]) -> Result<bool, Stop> {
+    fn next_entry(&mut self, _input: &[u8]) -> Result<bool, Stop<F::Error>> {
         let is_more = self.from.next_entry();
-        let is_more = self.told(is_more, "an entry")?;
-        self.pass(is_more, At::Entry);
+        let is_more = self.seen(is_more)?;
+        self.steps.pass(is_more, Part::Key, Part::Key);
         Ok(is_more)
     }
 
-    fn variant(&mut self, _input: &[u8], names: &[Name<'_>]) -> Result<usize, Stop> {
-        let found = self.value().variant(names);
+    fn variant(&mut self, _input: &[u8], names: &[Name<'_>]) -> Result<usize, Stop<F::Error>> {
+        let found = self.from.variant(names);
         let found = self.told(found, "variant identifier")?;
-        self.last = Last::Variant;
-        if found >= names.len() && self.keep_variant(names).is_err() {
-            return Err(Stop::Fatal);
+        self.steps.cause = Cause::NoData;
+        if found >= names.len() && self.steps.keep_variant(names).is_err() {
+            return Err(self.no_memory());
         }
         Ok(found)
     }
 
-    #[inline(always)]
-    fn skip(&mut self, _input: &[u8]) -> Result<(), Stop> {
-        let skipped = self.value().skip();
+    fn skip(&mut self, _input: &[u8]) -> Result<(), Stop<F::Error>> {
+        let skipped = self.from.skip();
         self.told(skipped, "a value")
     }
 
     fn mark(&mut self) -> Back<F::Mark> {
-        if self.at == At::Key {
-            self.at = At::Value;
-        }
         Back {
             mark: self.from.mark(),
-            open: self.counts.len(),
-            count: self.counts.last().copied().unwrap_or(0),
-            at: self.at,
+            open: self.steps.counts.len(),
+            count: self.steps.counts.last().copied().unwrap_or(0),
+            next: self.steps.next,
         }
     }
 
     fn rewind(&mut self, mark: Back<F::Mark>) {
         self.from.rewind(mark.mark);
-        self.counts.truncate(mark.open);
-        (self.at, self.last) = (mark.at, Last::Rewind);
-        if let Some(count) = self.counts.last_mut() {
+        let steps = &mut self.steps;
+        steps.counts.truncate(mark.open);
+        (steps.part, steps.next, steps.cause) = (mark.next, mark.next, Cause::NoMatch);
+        if let Some(count) = steps.counts.last_mut() {
             *count = mark.count;
         }
     }
@@ -536,66 +523,60 @@ impl<F: Format> Format for Trace<'_, '_, '_, F> {
         self.from.release(mark.mark)
     }
 
-    fn is_fatal(&self, stop: &Stop) -> bool {
-        matches!(stop, Stop::Fatal | Stop::Borrowed)
+    fn is_fatal(&self, stop: &Stop<F::Error>) -> bool {
+        match stop {
+            Stop::At(rejection) => matches!(rejection.cause, Cause::Borrowed),
+            _ => matches!(stop, Stop::Fatal(_)),
+        }
     }
 
-    fn missing(&self, name: &str) -> Stop {
-        let open = self.counts.len();
-        let renamed = self
-            .renamed
-            .iter()
-            .find(|renamed| renamed.0 == open && renamed.1.as_str() == name);
-        let key = renamed.map_or(name, |renamed| renamed.2.as_str());
-        self.stop(Part::End, Cause::Missing, key)
+    fn missing(&self, name: &str) -> Stop<F::Error> {
+        for renamed in &self.steps.renamed {
+            if renamed.open == self.steps.counts.len() && renamed.name.as_str() == name {
+                return self.stop(Part::End, Cause::Missing, renamed.key.as_str());
+            }
+        }
+        self.stop(Part::End, Cause::Missing, name)
     }
 
-    fn duplicate(&self, _name: &str) -> Stop {
+    fn duplicate(&self, _name: &str) -> Stop<F::Error> {
         self.stop(Part::Key, Cause::Duplicate, "")
     }
 
-    fn unknown_key(&self) -> Stop {
-        self.stop(Part::Key, Cause::UnknownField, self.words.as_str())
+    fn unknown_key(&self) -> Stop<F::Error> {
+        self.stop(Part::Key, Cause::UnknownField, self.steps.words.as_str())
     }
 
-    fn unknown_variant(&self) -> Stop {
+    fn unknown_variant(&self) -> Stop<F::Error> {
         Stop::Variant
     }
 
-    fn wrong_len(&self) -> Stop {
-        let begun = self.counts.last().copied().unwrap_or(0);
-        match self.last {
-            Last::Item => self.stop(Part::Value, Cause::Long(begun.saturating_sub(1)), ""),
-            _ => self.stop(Part::Value, Cause::Short, ""),
+    fn wrong_len(&self) -> Stop<F::Error> {
+        if matches!(self.steps.cause, Cause::Long) {
+            return self.stop(Part::Value, Cause::Long, "");
         }
+        let words = InlineText::<40>::of("invalid length ").and(self.steps.ended, 20);
+        self.stop(Part::Value, Cause::Message, words.as_str())
     }
 
-    fn invalid(&self) -> Stop {
-        let (part, cause, words) = match (self.last, self.at) {
-            (Last::Borrowed, _) => return Stop::Borrowed,
-            (Last::NoKey, _) => (Part::End, Cause::Missing, self.words.as_str()),
-            (Last::NoVariant, _) => (Part::End, Cause::Message, NO_VARIANT),
-            (Last::Integer, _) => (self.part(), Cause::Expected, RANGE),
-            // It comes next.
-            (Last::NoUnit, At::Key) => (Part::Value, Cause::Expected, "unit"),
-            (Last::NoUnit, _) => (self.part(), Cause::Expected, "unit"),
-            (Last::Variant, _) => (self.part(), Cause::Message, NO_DATA),
-            (Last::SecondKey, _) => (self.part(), Cause::Message, TWO_VARIANTS),
-            (Last::Rewind, _) => (self.part(), Cause::Message, NO_MATCH),
-            _ => (self.part(), Cause::Message, "invalid value"),
+    fn invalid(&self) -> Stop<F::Error> {
+        let cause = match self.steps.cause {
+            Cause::Long => Cause::Invalid,
+            cause => cause,
         };
-        self.stop(part, cause, words)
+        self.stop(self.steps.part, cause, self.steps.words.as_str())
     }
 
-    fn no_memory(&self) -> Stop {
-        Stop::Fatal
+    fn no_memory(&self) -> Stop<F::Error> {
+        Stop::Fatal(self.from.no_memory())
     }
 
-    fn custom(&self, message: &str) -> Stop {
-        match (self.last, message) {
-            (Last::Borrowed, _) => Stop::Borrowed,
-            (_, "") => self.stop(self.part(), Cause::Message, "invalid value"),
-            _ => self.stop(self.part(), Cause::Message, message),
-        }
+    fn custom(&self, message: &str) -> Stop<F::Error> {
+        let cause = match self.steps.cause {
+            Cause::Borrowed => Cause::Borrowed,
+            _ if message.is_empty() => Cause::Invalid,
+            _ => Cause::Message,
+        };
+        self.stop(self.steps.part, cause, message)
     }
 }
