@@ -17,13 +17,14 @@ pub(crate) fn raw_range(document: &str, text: &str, start: usize, end: usize) ->
 
 /// Returns what is behind the quotes, if the document begins with any. A line feed at the start of three quotes is left out.
 fn content_of(document: &str) -> &str {
-    for quotes in ["\"\"\"", "'''"] {
-        if let Some(content) = document.strip_prefix(quotes) {
-            let content = content.strip_prefix('\r').unwrap_or(content);
-            return content.strip_prefix('\n').unwrap_or(content);
-        }
-    }
-    document.strip_prefix(['"', '\'']).unwrap_or(document)
+    let long = document
+        .strip_prefix("\"\"\"")
+        .or(document.strip_prefix("'''"));
+    let Some(content) = long else {
+        return document.strip_prefix(['"', '\'']).unwrap_or(document);
+    };
+    let content = content.strip_prefix('\r').unwrap_or(content);
+    content.strip_prefix('\n').unwrap_or(content)
 }
 
 /// Returns the offset in a string's content behind what stands for its first bytes.

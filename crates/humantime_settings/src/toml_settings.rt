@@ -144,21 +144,25 @@ fn way<'a>(
 ) -> Result<(Vec<Step<'a>>, &'a Value), AllocError> {
     let (mut steps, mut value) = (Vec::new(alloc), values);
     for number in path {
-        let (step, inner) = match value {
-            Value::Table(table) => match table.iter().nth(*number) {
-                Some((key, inner)) => (Step::Key(key.as_str()), inner),
-                None => break,
-            },
-            Value::Array(items) => match items.get(*number) {
-                Some(inner) => (Step::Item(number.saturating_add(1)), inner),
-                None => break,
-            },
-            _ => break,
+        let Some((step, inner)) = step_into(value, *number) else {
+            break;
         };
         steps.push(step)?;
         value = inner;
     }
     Ok((steps, value))
+}
+
+/// Returns the step to an entry or an item, and its value.
+fn step_into(value: &Value, number: usize) -> Option<(Step<'_>, &Value)> {
+    match value {
+        Value::Table(table) => {
+            let (key, inner) = table.iter().nth(number)?;
+            Some((Step::Key(key.as_str()), inner))
+        }
+        Value::Array(items) => Some((Step::Item(number.saturating_add(1)), items.get(number)?)),
+        _ => None,
+    }
 }
 
 /// Describes a value.
