@@ -1,21 +1,8 @@
 -- Steps that proofs by hand have in common: of calls, of clauses, and of a buffer that a result may borrow from.
-use seplogic.Ra.Ura.{Ura}
-use base.Logic.{ex_i, upd_i}
-use base.Fml.{fdead, fupd, fwand, fseps}
-use types.Kit.{Goal, Item, Seq, Soaks, Step, step, assume, fpack, fpick}
-use types.Logic.{Logic, sem}
+use Rattle.humantime.proofs.StandardFacts.{Ura, ex_i, upd_i, fdead, fupd, fwand, fseps, Goal, Item, Seq, Soaks, Step, step, assume, fpack, fpick, Logic, sem, bor_open, obor_alter, res_agree, Lfts, Shares, toks, such_by, follows_by, Is, hidden_shr, mem, part_at, Clauses, Ended, Lasts, at_exit, closing, Res, Array, u8, ℕ, List, [], ◌∷◌, refl, sym, w8, MutBor, full_share, SProp, id⊢, emp, ent, sep, Fml, fsep, ftrue, flft, fres, fbor, fauth, Shares-copy, c_arr, c_rf, f_int, named, Val, fact, fact_i, ‵, raw, ◌⊛◌, some, later, prop, ◌$◌, ◌∵◌, !, qed, done, move, keep, drop, use0, use1, use2, split, fsplit, fjoin, feq_i, pick, await, rewrite, suffices, frame, group, shows, ShrRef, mut_vals, type_at, heard, peeks, lasts, alive, triple_of}
 use types.SemTy.{Body}
-use types.Tokens.{bor_open, obor_alter, res_agree}
 use mathlib.Core.Option.{none}
-use contract.Lifetimes.{Lfts, Shares, toks}
-use denote.Follow.{such_by, follows_by}
-use denote.Laws.{Is}
-use denote.Memory.{hidden_shr, mem, part_at}
-use denote.Triple.Clauses.{Clauses, Ended, Lasts, at_exit, closing}
-use denote.Triple.Entry.{Res}
-use Rattle.std.specs.Borrow.{Array, u8}
 use Rattle.humantime.specs.Buffers.{BufferHolds}
-use Rattle.humantime.proofs.StandardFacts.{ℕ, List, [], ◌∷◌, refl, sym, w8, MutBor, full_share, SProp, id⊢, emp, ent, sep, Fml, fsep, ftrue, flft, fres, fbor, fauth, Shares-copy, c_arr, c_rf, f_int, named, Val, fact, fact_i, ‵, raw, ◌⊛◌, some, later, prop, ◌$◌, ◌∵◌, !, qed, done, move, keep, drop, use0, use1, use2, split, fsplit, fjoin, feq_i, pick, await, rewrite, suffices, frame, group, shows, ShrRef, mut_vals, type_at, heard, peeks, lasts, alive, triple_of}
 
 -- If the last bytes of a buffer are known, it holds them.
 pub holds : {M : Type 1} {𝓤 : Ura M} (𝓛 : Logic 𝓤) (n : ℕ) (buf : MutBor (List ℕ)) (last : List ℕ) (P : List ℕ → Type 0) → P last

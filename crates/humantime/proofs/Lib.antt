@@ -1,5 +1,6 @@
--- The names of the kit that proofs cite most.
+-- The names of the kit and of specs/ that proofs cite most.
 pub mod Prelude
+pub mod Definitions
 -- What callers cite.
 pub mod Theorems
 pub mod OnLiterals

@@ -1,11 +1,7 @@
 -- The theorems that callers cite: the laws over plain variables, each under the name of its function in `laws`, and some others.
-use Rattle.humantime.proofs.Prelude.{nat_tests, rules, ◌≡◌, ℕ, ◌<◌, List, Result, chars, refl, sym, ◌∙◌, arith, true, [], ◌∷◌, ◌+◌, ◌++◌, inl, inr, ◌≤◌, ◌-◌, ◌/◌, ◌^◌, ◌↔◌, Ok, IsTrue, ℤ, pos, negsuc, ◌≤ℤ◌, ◌<ℤ◌, IfSome, nat_cmp, int_cmp, is_le, is_lt, bytes_eq-Decides, common_steps, AllByRecursion, slice_cmp, ints}
-use Rattle.std.proofs.Math.Nat.{mul-mod_right, div-add-mod}
-use Rattle.humantime.specs.Laws.{ExactlyOne, HasOneOutcome, ItemsDecide, ItemsTile, PrintsAndReads, TextsTellApart, IsBounded, IsCanonicalAgain, OlderFormed, older_additions, AcceptedWithZeros, OlderZero, OlderSum, KeepsValueWithZeros, AreReordered, KeepsValueWithoutWhitespace, AddWhenJoined, KeepValueReordered, HasOneTimestamp, IsWeakAndMarked, MomentPrintsAndReads}
-use Rattle.humantime.specs.Prelude.{AreItems, SpanView, IsCanonicalText, duration_end, Fault, NumberOverflow, result_view, fault_of, IsWeak, IsStrict, weak_checks, strict_checks, MomentToPrint, cut, IsPrinted, IsPrintedWith, IsPrintable, printed_text, weak_answer, strict_answer}
+use Rattle.humantime.proofs.Prelude.{nat_tests, rules, ◌≡◌, ℕ, ◌<◌, List, Result, chars, refl, sym, ◌∙◌, arith, true, [], ◌∷◌, ◌+◌, ◌++◌, inl, inr, ◌≤◌, ◌-◌, ◌/◌, ◌^◌, ◌↔◌, Ok, IsTrue, ℤ, pos, negsuc, ◌≤ℤ◌, ◌<ℤ◌, IfSome, nat_cmp, int_cmp, is_le, is_lt, bytes_eq-Decides, common_steps, AllByRecursion, slice_cmp, ints, mul-mod_right, div-add-mod}
+use Rattle.humantime.proofs.Definitions.{ExactlyOne, HasOneOutcome, ItemsDecide, ItemsTile, PrintsAndReads, TextsTellApart, IsBounded, IsCanonicalAgain, OlderFormed, older_additions, AcceptedWithZeros, OlderZero, OlderSum, KeepsValueWithZeros, AreReordered, KeepsValueWithoutWhitespace, AddWhenJoined, KeepValueReordered, HasOneTimestamp, IsWeakAndMarked, MomentPrintsAndReads, AreItems, SpanView, IsCanonicalText, duration_end, Fault, NumberOverflow, result_view, fault_of, IsWeak, IsStrict, weak_checks, strict_checks, MomentToPrint, cut, IsPrinted, IsPrintedWith, IsPrintable, printed_text, weak_answer, strict_answer, item_views, duration_text, duration_answer, canonical_answer, SpelledSpan, additions, Formed, fits, Accepted, BareZero, SumOf}
 use Rattle.humantime.specs.declared.duration.error.DurationError.{DurationError}
-use Rattle.humantime.specs.DurationResults.{item_views, duration_text, duration_answer, canonical_answer}
-use Rattle.humantime.specs.Durations.{SpelledSpan, additions, Formed, fits, Accepted, BareZero, SumOf}
 use Rattle.humantime.proofs.Items.{are_items, first_error_answers, front_tiled, one_span_view, text_tiled}
 use Rattle.humantime.proofs.Outcomes.{accepted_from_outcome, answer_accepts, answer_faults, exactly_one_outcome, items_decide_fault, items_decide_overflow, items_decide_value, one_list_of_items, outcome_accepted, outcome_fault, reordered_value, zero_or_spans}
 use Rattle.humantime.proofs.Characters.{significant_shorter, whole_part_kept, amount_kept}

@@ -1,17 +1,10 @@
 -- Lemmas about a piece of a text, and about a line that is written piece by piece.
-use Rattle.std.proofs.Common.{arith, take_all, take-append-drop, append_assoc, append-nil, ◌≡◌, ℕ, zero, suc, List, [], ◌∷◌, ◌++◌, ◌≤◌, ◌<◌, ◌+◌, ◌-◌, refl, sym, ap, ◌∙◌, take, drop, min, subst, length, length-append, length-take, length-drop}
+use Rattle.humantime.proofs.Prelude.{arith, take_all, take-append-drop, append_assoc, append-nil, ◌≡◌, ℕ, zero, suc, List, [], ◌∷◌, ◌++◌, ◌≤◌, ◌<◌, ◌+◌, ◌-◌, refl, sym, ap, ◌∙◌, take, drop, min, subst, length, length-append, length-take, length-drop, take-put_mid, common_steps, take_min, drop_min, take-take, WritesText, FoldsTo, concat, Option, None, Some, IsSome, true, false, ◌||◌, ◌&&◌, ◌==◌, not, Bool, nat_lt, unwrap_or, nat_tests}
 use Rattle.std.proofs.KnownBytes.{Appends-trans}
 use Rattle.std.proofs.Math.Seq.{take-add}
-use Rattle.std.proofs.lemmas.Slice.{take-put_mid}
-use Rattle.std.proofs.lemmas.Grind.{common_steps}
-use Rattle.std.proofs.lemmas.List.{take_min, drop_min, take-take}
-use Rattle.std.specs.Fmt.{WritesText}
 use Rattle.std.specs.Io.KnownBytes.{Appends}
-use Rattle.std.specs.List.{FoldsTo, concat}
-use Rattle.std.specs.Prelude.{Option, None, Some, IsSome, true, false, ◌||◌, ◌&&◌, ◌==◌, not, Bool, nat_lt, unwrap_or}
 use Rattle.humantime_cli.specs.Pieces.{IsPiece, AddsText}
 use Rattle.humantime_cli.specs.declared.piece.Piece.{Piece}
-use Rattle.std.proofs.lemmas.Bool.Decides.{nat_tests}
 
 -- Texts that were added one after the other are one text.
 adds_all : (old : Piece) (texts : List (List ℕ)) (new : Piece) → FoldsTo AddsText old texts new → AddsText old (concat texts) new

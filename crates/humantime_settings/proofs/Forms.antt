@@ -1,11 +1,8 @@
 -- Lemmas on lists and maps that are written and read in turn.
-use Rattle.std.proofs.Common.{◌≡◌, ℕ, suc, List, [], ◌∷◌, ◌++◌, Some, String, length, refl, sym, subst, ap, string_cmp}
+use Rattle.humantime.proofs.Prelude.{◌≡◌, ℕ, suc, List, [], ◌∷◌, ◌++◌, Some, String, length, refl, sym, subst, ap, string_cmp, eq_by_cmp_equiv, AllZip, eq_by_cmp}
 use Rattle.std.proofs.lemmas.Map.Keys.{IsDistinct-from_sorted}
 use Rattle.std.proofs.lemmas.Map.Made.{update_all_none}
 use Rattle.std.specs.BTreeMap.{BTreeMap, IsFromIterResult, IsOrdered, keys}
-use Rattle.std.proofs.lemmas.Cmp.{eq_by_cmp_equiv}
-use Rattle.std.specs.List.{AllZip}
-use Rattle.std.specs.Ordering.{eq_by_cmp}
 use Rattle.std.specs.String.{string_cmp_total}
 use Rattle.serde.specs.Event.{Log, Logs, Sends, WritesEach, WritesEntry, WritesSeq, map_begins, map_ends, seq_begins, text}
 use Rattle.humantime_settings.specs.Texts.{AreEntries, AreTexts, Form, InTurn, IsEntry, IsMapFrom, Writes, entries, texts}

@@ -1,15 +1,5 @@
 -- What stands under a line up to a part, piece by piece.
-use Rattle.std.proofs.Common.{arith, ◌≡◌, ◌==◌, ℕ, zero, suc, ◌-◌, ◌<◌, ◌≤◌, true, not, List, [], ◌∷◌, ◌++◌, length, drop, get_or, map, refl, sym, ap, subst, append_assoc, replicate}
-use Rattle.std.proofs.Output.{has_written_styled_append, has_written_styled_of_eq}
-use Rattle.std.proofs.lemmas.List.{get_or-drop, length-drop}
-use Rattle.std.proofs.lemmas.List.Splits.{slice_split_first, slice_split_none, length-slice_split}
-use Rattle.std.proofs.lemmas.List.Sums.{fails_before_first, suffix_len_is}
-use Rattle.std.proofs.lemmas.Str.Pattern.{NoCharPasses-char}
-use Rattle.std.specs.Fmt.{HasWritten, HasWrittenStyled, IsDefaultSpec, IsPlainFormatter}
-use Rattle.std.specs.declared.fmt.Formatter.{Formatter}
-use Rattle.std.specs.List.{position_or_len, before_first, after_last, after_first, join_with_byte, repeat, slice_split}
-use Rattle.std.specs.Prelude.{max}
-use Rattle.std.specs.Str.{NoCharPasses}
+use Rattle.humantime.proofs.Prelude.{arith, ◌≡◌, ◌==◌, ℕ, zero, suc, ◌-◌, ◌<◌, ◌≤◌, true, not, List, [], ◌∷◌, ◌++◌, length, drop, get_or, map, refl, sym, ap, subst, append_assoc, replicate, has_written_styled_append, has_written_styled_of_eq, get_or-drop, length-drop, slice_split_first, slice_split_none, length-slice_split, fails_before_first, suffix_len_is, NoCharPasses-char, HasWritten, HasWrittenStyled, IsDefaultSpec, IsPlainFormatter, Formatter, position_or_len, before_first, after_last, after_first, join_with_byte, repeat, slice_split, max, NoCharPasses}
 use Rattle.humantime_std.specs.Carets.{columns, blanks, caret_line, is_line_feed, is_tab}
 
 -- What is written whatever the options are, is written without options.

@@ -1,17 +1,6 @@
 -- The bytes of an error: numbers of two digits, what fits the layout, and that their range lies in the text, between characters.
-use Rattle.std.proofs.Common.{◌≡◌, ℕ, zero, suc, ◌+◌, ◌-◌, ◌*◌, ◌<◌, ◌≤◌, List, ◌∷◌, length, get_or, drop, arith, rules}
-use Rattle.std.specs.Prelude.{⊤, Bool, true}
-use Rattle.std.specs.Char.{is_ascii_digit}
-use Rattle.std.specs.Int.{is_in_range}
-use Rattle.std.specs.List.{AllByRecursion, prefix_len, zip}
-use Rattle.std.specs.Str.{IsUtf8, IsCharBoundary}
-use Rattle.std.proofs.lemmas.Bool.{and_parts}
-use Rattle.std.proofs.lemmas.Bool.Decides.{nat_tests}
-use Rattle.std.proofs.lemmas.Grind.{common_steps}
-use Rattle.std.proofs.lemmas.List.{get_or-drop, get_or_past, length-drop}
-use Rattle.std.proofs.lemmas.List.Sums.{prefix_len-le-length, prefix_len_is, prefix_len_passes}
+use Rattle.humantime.proofs.Prelude.{◌≡◌, ℕ, zero, suc, ◌+◌, ◌-◌, ◌*◌, ◌<◌, ◌≤◌, List, ◌∷◌, length, get_or, drop, arith, rules, ⊤, Bool, true, is_ascii_digit, is_in_range, AllByRecursion, prefix_len, zip, IsUtf8, IsCharBoundary, and_parts, nat_tests, common_steps, get_or-drop, get_or_past, length-drop, prefix_len-le-length, prefix_len_is, prefix_len_passes, IsCharBoundary-start, IsCharBoundary-end, IsCharBoundary-after_ascii}
 use Rattle.std.proofs.lemmas.Slice.Zip.{length-zip}
-use Rattle.std.proofs.lemmas.Str.{IsCharBoundary-start, IsCharBoundary-end, IsCharBoundary-after_ascii}
 use Rattle.humantime.specs.Timestamps.{has_digits, has_two, number_between}
 use Rattle.humantime.proofs.TimestampParts.{has_two_from_test, number_of_two, number_of_four}
 use Rattle.humantime_std.specs.Located.{IsRangeIn, char_end, fit_len, fits, fraction_end, layout, timestamp_len, wrong_field, zone_len}

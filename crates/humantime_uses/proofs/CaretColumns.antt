@@ -1,13 +1,7 @@
 -- A caret line stands under its part.
-use Rattle.std.proofs.Common.{◌≡◌, ◌+◌, ◌<◌, ◌⊎◌, ℕ, zero, suc, true, false, List, [], ◌∷◌, ◌++◌, length, map, replicate, refl, ap, ◌∙◌, inl, inr, arith}
-use Rattle.std.specs.Prelude.{All, Bool, Option, None, Some, codes, decimal, if◌then◌else◌, nat_lt, option_map, slice_range, take, unwrap_or}
-use Rattle.std.specs.List.{before_first, join_with_byte, list_all, slice_split}
-use Rattle.std.proofs.lemmas.List.{length-replicate}
+use Rattle.humantime.proofs.Prelude.{◌≡◌, ◌+◌, ◌<◌, ◌⊎◌, ℕ, zero, suc, true, false, List, [], ◌∷◌, ◌++◌, length, map, replicate, refl, ap, ◌∙◌, inl, inr, arith, All, Bool, Option, None, Some, codes, decimal, if◌then◌else◌, nat_lt, option_map, slice_range, take, unwrap_or, before_first, join_with_byte, list_all, slice_split, length-replicate, length-slice_split, slice_split_at, slice_split_none, chars-IsAscii, is_in_range}
 use Rattle.std.proofs.lemmas.List.Elements.{All-append, All-cons, All-nil, All-replicate}
-use Rattle.std.proofs.lemmas.List.Splits.{length-slice_split, slice_split_at, slice_split_none}
-use Rattle.std.proofs.lemmas.Str.{chars-IsAscii}
 use Rattle.std.proofs.lemmas.Str.Ascii.{IsAscii-from_all}
-use Rattle.std.specs.Int.{is_in_range}
 use Rattle.unicode_width.specs.Width.{str_width}
 use Rattle.unicode_width.proofs.Rules.{str_width-printable}
 use Rattle.humantime_std.specs.Carets.{blanks, caret_line, columns, is_line_feed, is_tab, line_number, report_text}

@@ -1,14 +1,6 @@
 -- Steps of proofs about a buffer that a call is lent, and that comes back with the bytes that its result leaves, once that is gone.
-use seplogic.Ra.Ura.{Ura}
-use base.Logic.{ex_e}
-use contract.Lifetimes.{Lfts, Shares, toks}
-use types.Kit.{Goal, Item, Seq, Soaks, Step, step, show}
-use types.Logic.{Logic, sem}
-use types.Tokens.{lft_new, lft_end}
-use denote.Follow.{such_by, follows_by}
+use Rattle.humantime.proofs.StandardFacts.{Ura, ex_e, Lfts, Shares, toks, Goal, Item, Seq, Soaks, Step, step, show, Logic, sem, lft_new, lft_end, such_by, follows_by, Array, u8, ℕ, List, [], ◌∷◌, MutBor, full_share, SProp, id⊢, emp, sep, Fml, fsep, ftrue, flft, fres, named, fact, ‵, raw, ◌⊛◌, some, later, ◌$◌, ◌∵◌, !, qed, done, move, use1, use2, use3, split, join, pick, await, group, RattleType, MutRef, mut_vals, heard, says}
 use denote.Lend.{lends_again, comes_back, LentAgain}
-use Rattle.std.specs.Borrow.{Array, u8}
-use Rattle.humantime.proofs.StandardFacts.{ℕ, List, [], ◌∷◌, MutBor, full_share, SProp, id⊢, emp, sep, Fml, fsep, ftrue, flft, fres, named, fact, ‵, raw, ◌⊛◌, some, later, ◌$◌, ◌∵◌, !, qed, done, move, use1, use2, use3, split, join, pick, await, group, RattleType, MutRef, mut_vals, heard, says}
 use Rattle.humantime.specs.Buffers.{BufferHolds}
 
 -- What a call of two parameters is given: the tokens, and what the parameters own, of which the second is a `&mut`.

@@ -1,19 +1,8 @@
 -- Which bytes of any timestamp and any duration are wrong, and what stands under any line: each rule written out, so that it holds at every value.
-use Rattle.std.proofs.Common.{◌≡◌, ◌≢◌, ◌↔◌, ◌⊎◌, ℕ, ◌+◌, ◌<◌, ◌≤◌, List, [], ◌∷◌, ◌++◌, length, drop, refl, chars, arith}
-use Rattle.std.specs.Prelude.{Bool, true, false, ◌||◌, ◌==◌, codes, slice_index}
-use Rattle.std.specs.Char.{is_ascii_digit}
-use Rattle.std.specs.Int.{is_in_range}
-use Rattle.std.specs.List.{prefix_len, zip}
-use Rattle.std.specs.Str.{byte}
-use Rattle.std.proofs.lemmas.Bool.{cases_Bool}
-use Rattle.std.proofs.lemmas.Bool.Decides.{nat_tests}
+use Rattle.humantime.proofs.Prelude.{◌≡◌, ◌≢◌, ◌↔◌, ◌⊎◌, ℕ, ◌+◌, ◌<◌, ◌≤◌, List, [], ◌∷◌, ◌++◌, length, drop, refl, chars, arith, Bool, true, false, ◌||◌, ◌==◌, codes, slice_index, is_ascii_digit, is_in_range, prefix_len, zip, byte, cases_Bool, nat_tests}
+use Rattle.humantime.proofs.Definitions.{days_in_month, number_between, byte_length, offset_of, InvalidCharacter, NumberExpected, UnknownUnit, NumberOverflow, Empty, HasFault, after_word, span_of, too_long}
 use Rattle.humantime.specs.declared.date.error.TimestampError.{TimestampError}
 use Rattle.humantime.specs.declared.date.error.TimestampError.TheVariants.{OutOfRange, InvalidDigit, InvalidFormat}
-use Rattle.humantime.specs.Calendar.{days_in_month}
-use Rattle.humantime.specs.Timestamps.{number_between}
-use Rattle.humantime.specs.Characters.{byte_length, offset_of}
-use Rattle.humantime.specs.DurationErrors.{InvalidCharacter, NumberExpected, UnknownUnit, NumberOverflow, Empty, HasFault, after_word, span_of}
-use Rattle.humantime.specs.Durations.{too_long}
 use Rattle.humantime.proofs.OnLiterals.{timestamps_on_literals}
 use Rattle.humantime_std.specs.Located.{IsFaultRange, char_end, error_range, fit_len, fits, fraction_end, layout, timestamp_len, wrong_field, zone_len}
 

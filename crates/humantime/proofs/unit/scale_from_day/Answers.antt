@@ -1,6 +1,5 @@
 use Rattle.humantime.proofs.Prelude.{nat_tests, None, arith, length}
-use Rattle.humantime.specs.Values.{seconds_per_day}
-use Rattle.humantime.specs.PrivateFunctions.{words_from}
+use Rattle.humantime.proofs.Definitions.{seconds_per_day, words_from}
 use Rattle.humantime.proofs.UnitWords.{at_each_length, from_day}
 use Rattle.humantime.proofs.unit.scale_from_day.Goals as goal
 

@@ -1,6 +1,5 @@
 use Rattle.humantime.proofs.Prelude.{nat_tests, chars, arith, length}
-use Rattle.humantime.specs.Durations.{words}
-use Rattle.humantime.specs.PrivateFunctions.{words_below, scale_from}
+use Rattle.humantime.proofs.Definitions.{words, words_below, scale_from}
 use Rattle.humantime.proofs.UnitWords.{at_each_length, below_second}
 use Rattle.humantime.proofs.unit.scale_of.Goals as goal
 

@@ -1,6 +1,4 @@
-use Rattle.std.specs.Borrow.{Array, u8}
-use Rattle.std.specs.Prelude.{OnErr}
-use Rattle.humantime.proofs.StandardFacts.{◌≡◌, ℕ, List, [], ◌∷◌, refl, MutBor, arith, proved, full_share, named, Val, vunit, tables, raw, ◌$◌, ◌∵◌, !, qed, done, move, keep, fjoin, feq_i, suffices, frame, enter, of_opd, unit_lit, addr, stop, no_more, and_then, returns, alloc_all, pass_all, free_all, look_at, get, through, sets, lands_as, yes, lone, mut_vals, mut_Tells, plain, type_at, nothing, StrRefOf, str-laws, Str, calls_at, triple_of, Stays, stay_dropped, Goes-dropped, stay_ref, Goes-ref, ends_at, says, framed}
+use Rattle.humantime.proofs.StandardFacts.{Array, u8, OnErr, ◌≡◌, ℕ, List, [], ◌∷◌, refl, MutBor, arith, proved, full_share, named, Val, vunit, tables, raw, ◌$◌, ◌∵◌, !, qed, done, move, keep, fjoin, feq_i, suffices, frame, enter, of_opd, unit_lit, addr, stop, no_more, and_then, returns, alloc_all, pass_all, free_all, look_at, get, through, sets, lands_as, yes, lone, mut_vals, mut_Tells, plain, type_at, nothing, StrRefOf, str-laws, Str, calls_at, triple_of, Stays, stay_dropped, Goes-dropped, stay_ref, Goes-ref, ends_at, says, framed}
 use Rattle.humantime.proofs.Buffers.{returned, hears}
 use Rattle.humantime_uses.proofs.Kept.{lent, back, last_held}
 use Rattle.humantime.specs.contracts.canonical as g

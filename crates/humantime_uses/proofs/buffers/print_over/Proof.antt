@@ -1,6 +1,4 @@
-use Rattle.std.specs.Borrow.{Array, u8}
-use Rattle.std.specs.Prelude.{IfNone}
-use Rattle.humantime.proofs.StandardFacts.{◌≡◌, ℕ, List, [], ◌∷◌, refl, MutBor, arith, proved, full_share, named, Val, vunit, tables, raw, ◌$◌, ◌∵◌, !, qed, done, move, keep, fjoin, feq_i, suffices, frame, enter, of_opd, unit_lit, addr, stop, no_more, and_then, returns, alloc_all, pass_all, free_all, look_at, get, through, sets, lands_as, RefOf, yes, lone, ShrRef, mut_vals, shr_vals, mut_Tells, shr_Tells, plain, type_at, nothing, calls_at, triple_of, Stays, stay_dropped, Goes-dropped, stay_ref, Goes-ref, ends_at, says, framed}
+use Rattle.humantime.proofs.StandardFacts.{Array, u8, IfNone, ◌≡◌, ℕ, List, [], ◌∷◌, refl, MutBor, arith, proved, full_share, named, Val, vunit, tables, raw, ◌$◌, ◌∵◌, !, qed, done, move, keep, fjoin, feq_i, suffices, frame, enter, of_opd, unit_lit, addr, stop, no_more, and_then, returns, alloc_all, pass_all, free_all, look_at, get, through, sets, lands_as, RefOf, yes, lone, ShrRef, mut_vals, shr_vals, mut_Tells, shr_Tells, plain, type_at, nothing, calls_at, triple_of, Stays, stay_dropped, Goes-dropped, stay_ref, Goes-ref, ends_at, says, framed}
 use Rattle.humantime.proofs.Buffers.{returned, hears}
 use Rattle.humantime_uses.proofs.Kept.{lent, back, last_held}
 use Rattle.humantime.specs.contracts.date.print.Rfc3339Timestamp.{the_row as Self}

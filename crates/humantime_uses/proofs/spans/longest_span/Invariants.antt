@@ -1,5 +1,4 @@
-use Rattle.std.proofs.Common.{◌≡◌}
-use Rattle.std.specs.Prelude.{max}
+use Rattle.humantime.proofs.Prelude.{◌≡◌, max}
 use Rattle.humantime.specs.Prelude.{items_left, text_of}
 use Rattle.humantime_uses.specs.SpanItems.{longest_of}
 use Rattle.humantime_uses.proofs.spans.longest_span.Given as goal

@@ -1,8 +1,6 @@
 -- The contract of `canonical`, proved by hand, in the five steps that `proofs/date/print/Rfc3339Timestamp/text/Proof.antt` describes. Here the
 -- calls are those of `write_canonical` and `text_or_error`.
-use Rattle.std.proofs.Common.{IsUtf8, IfOk, OnErr, take}
-use Rattle.std.specs.Borrow.{Array, u8}
-use Rattle.humantime.proofs.StandardFacts.{◌≡◌, ℕ, ◌≤◌, List, [], ◌∷◌, refl, Bor, arith, proved, id⊢, emp, named, fact, fact_i, tables, raw, ◌$◌, ◌∵◌, !, qed, by, move, keep, use0, use2, join, fjoin, suffices, frame, group, enter, of_opd, addr, stop, no_more, and_then, returns, alloc_all, pass_all, free_all, look_at, get, through, sets, lands_as, yes, no, lone, mut_vals, shr_vals, mut_Tells, plain, type_at, nothing, heard, StrRefOf, str-laws, calls_at, triple_of, Stays, stay_dropped, Goes-dropped, Goes-spent_ref, ends_at, framed}
+use Rattle.humantime.proofs.StandardFacts.{IsUtf8, IfOk, OnErr, take, Array, u8, ◌≡◌, ℕ, ◌≤◌, List, [], ◌∷◌, refl, Bor, arith, proved, id⊢, emp, named, fact, fact_i, tables, raw, ◌$◌, ◌∵◌, !, qed, by, move, keep, use0, use2, join, fjoin, suffices, frame, group, enter, of_opd, addr, stop, no_more, and_then, returns, alloc_all, pass_all, free_all, look_at, get, through, sets, lands_as, yes, no, lone, mut_vals, shr_vals, mut_Tells, plain, type_at, nothing, heard, StrRefOf, str-laws, calls_at, triple_of, Stays, stay_dropped, Goes-dropped, Goes-spent_ref, ends_at, framed}
 use Rattle.humantime.proofs.Buffers.{holds, returned, hears, shares_last, tells}
 use Rattle.humantime.proofs.CanonicalTexts.{answer_is_canonical, answer_is_fault}
 use Rattle.humantime.specs.contracts.duration.print.canonical as f

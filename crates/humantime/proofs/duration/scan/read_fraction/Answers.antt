@@ -1,6 +1,5 @@
 use Rattle.humantime.proofs.Prelude.{nat_tests, common_steps, IsCharBoundary-start, ◌≡◌, ◌+◌, ◌++◌, ◌∷◌, [], get_or, chars, drop, false, arith, length-append, append-nil, append_assoc}
-use Rattle.humantime.specs.Characters.{begins, is_numeric, without_trailing_zeros}
-use Rattle.humantime.specs.DurationErrors.{number_of}
+use Rattle.humantime.proofs.Definitions.{begins, is_numeric, without_trailing_zeros, number_of}
 use Rattle.humantime.proofs.SpanParts.{read_digit, read_whitespace, stops_here}
 use Rattle.humantime.proofs.Offsets.{front_is, no_chars_at}
 use Rattle.humantime.proofs.duration.scan.read_fraction.Goals as goal

@@ -1,7 +1,6 @@
-use Rattle.std.proofs.Common.{[], ◌∷◌, ◌++◌, None, String, Global, string_bytes, string_cmp, refl, rules, ◌∙◌}
+use Rattle.humantime.proofs.Prelude.{[], ◌∷◌, ◌++◌, None, String, Global, string_bytes, string_cmp, refl, rules, ◌∙◌, eq_by_cmp}
 use Rattle.std.proofs.lemmas.Map.{update_all_push}
 use Rattle.std.specs.BTreeMap.{get}
-use Rattle.std.specs.Ordering.{eq_by_cmp}
 use Rattle.humantime_settings.specs.Texts.{IsEntry, ReadsEntry, entries}
 use Rattle.humantime_settings.proofs.Forms.{one_more_in_turn, ReadsAs, all_read}
 use Rattle.humantime_settings.proofs.fields.BTreeMapStringValue.read.Goals as goal

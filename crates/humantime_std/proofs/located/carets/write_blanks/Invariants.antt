@@ -1,5 +1,4 @@
-use Rattle.std.proofs.Common.{length}
-use Rattle.std.specs.Fmt.{IsFlush}
+use Rattle.humantime.proofs.Prelude.{length, IsFlush}
 use denote.Shadow.{shadow}
 use denote.Text.{Utf8}
 use Rattle.humantime_std.proofs.Carets.{Under}

@@ -17,11 +17,9 @@
 -- rename or change what comes from its libraries, by way of `proofs/StandardFacts.antt`, or hand over the resources in another order.
 use Rattle.std.proofs.lemmas.Grind.{common_steps}
 use Rattle.std.proofs.lemmas.Str.{IsUtf8-from_ascii}
-use Rattle.std.proofs.Common.{IsUtf8, IfSome, IfNone, take, option_map}
-use Rattle.std.specs.Borrow.{Array, u8}
+use Rattle.humantime.proofs.StandardFacts.{IsUtf8, IfSome, IfNone, take, option_map, Array, u8, ◌≡◌, ℕ, ◌≤◌, List, [], ◌∷◌, refl, ◌∙◌, Bor, arith, proved, id⊢, emp, flft, named, fact, fact_i, tables, ‵, raw, ◌⊛◌, ◌$◌, ◌∵◌, !, qed, by, move, keep, use0, use1, use2, split, join, fjoin, suffices, frame, group, enter, addr, stop, no_more, and_then, returns, alloc_all, pass_all, free_all, look_at, get, through, sets, lands_as, RefOf, yes, no, lone, mut_vals, shr_vals, mut_Tells, shr_Tells, plain, type_at, nothing, heard, calls_at, alive, triple_of, Stays, stay_dropped, Goes-dropped, Goes-spent_ref, ends_at, framed}
 use Rattle.humantime.proofs.PrintedTimestamps.{printed_ascii, text_answered}
 use Rattle.humantime.proofs.Theorems.{printed_read}
-use Rattle.humantime.proofs.StandardFacts.{◌≡◌, ℕ, ◌≤◌, List, [], ◌∷◌, refl, ◌∙◌, Bor, arith, proved, id⊢, emp, flft, named, fact, fact_i, tables, ‵, raw, ◌⊛◌, ◌$◌, ◌∵◌, !, qed, by, move, keep, use0, use1, use2, split, join, fjoin, suffices, frame, group, enter, addr, stop, no_more, and_then, returns, alloc_all, pass_all, free_all, look_at, get, through, sets, lands_as, RefOf, yes, no, lone, mut_vals, shr_vals, mut_Tells, shr_Tells, plain, type_at, nothing, heard, calls_at, alive, triple_of, Stays, stay_dropped, Goes-dropped, Goes-spent_ref, ends_at, framed}
 use Rattle.humantime.proofs.Buffers.{holds, returned, hears, shares_last, tells}
 use Rattle.humantime.specs.contracts.date.print.Rfc3339Timestamp.{the_row as Self}
 use Rattle.humantime.specs.contracts.date.print.Rfc3339Timestamp.text as f
