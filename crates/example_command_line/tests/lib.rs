@@ -9,12 +9,7 @@ use std::test::Fail;
 
 /// Returns the program's name and these words.
 fn line_of(alloc: Global, words: &[&str]) -> Result<Vec<String>, AllocError> {
-    let mut line = Vec::new(alloc);
-    line.push(String::from_str(alloc, "example_command_line")?)?;
-    for word in words {
-        line.push(String::from_str(alloc, word)?)?;
-    }
-    Ok(line)
+    ["example_command_line"].iter().chain(words).map(|word| String::from_str(alloc, word)).try_collect(alloc)
 }
 
 /// Returns the options of these words after the program's name.

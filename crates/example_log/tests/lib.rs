@@ -10,11 +10,7 @@ const FROM: &str = "2018-02-14 00:28:07";
 const TO: &str = "2018-02-14 00:28:08";
 
 fn line_of(alloc: Global, words: &[&str]) -> Result<Vec<String>, AllocError> {
-    let mut line = Vec::new(alloc);
-    for word in words {
-        line.push(String::from_str(alloc, word)?)?;
-    }
-    Ok(line)
+    words.iter().map(|word| String::from_str(alloc, word)).try_collect(alloc)
 }
 
 #[test]

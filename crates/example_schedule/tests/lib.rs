@@ -10,11 +10,7 @@ const NOW: &str = "2018-02-16T09:00:00Z";
 const DELAYS: &str = "after failure 1: again in 1m\nafter failure 2: again in 3m\nafter failure 3: again in 5m\nafter failure 4: again in 5m\nafter failure 5: again in 5m\n";
 
 fn words_of(alloc: Global, words: &[&str]) -> Result<Vec<String>, AllocError> {
-    let mut strings = Vec::new(alloc);
-    for word in words {
-        strings.push(String::from_str(alloc, word)?)?;
-    }
-    Ok(strings)
+    words.iter().map(|word| String::from_str(alloc, word)).try_collect(alloc)
 }
 
 #[test]

@@ -36,11 +36,7 @@ timeout = \"5s\"
 ";
 
 fn words_of(alloc: Global, words: &[&str]) -> Result<Vec<String>, AllocError> {
-    let mut strings = Vec::new(alloc);
-    for word in words {
-        strings.push(String::from_str(alloc, word)?)?;
-    }
-    Ok(strings)
+    words.iter().map(|word| String::from_str(alloc, word)).try_collect(alloc)
 }
 
 #[test]
