@@ -1,5 +1,5 @@
 -- The first span up to whose end a text overflows.
-use Rattle.humantime.proofs.Prelude.{Ok, ◌≡◌, ◌≢◌, ◌==◌, ◌↔◌, ◌⊎◌, ℕ, zero, suc, ◌-◌, ◌≤◌, Bool, true, false, List, [], ◌∷◌, ◌++◌, length, take, drop, Option, Some, None, Result, Err, IsUtf8, IsCharBoundary, SomeIff, chars, option_map, unwrap_or, refl, sym, ap, ◌∙◌, inl, inr, arith, append_assoc, append-nil, length-append, slice_get, encode_utf8_all, IsOk, option_and_then, result_ok, trim_start, common_steps, gets, IsCharBoundary-at_seam, IsCharBoundary-end, chars-encodes, encodes-append, encodes-chars, length-le-encodes, scalars-chars}
+use Rattle.humantime.proofs.Prelude.{◌≡◌, ◌≢◌, ◌==◌, ◌↔◌, ◌⊎◌, ℕ, zero, suc, ◌-◌, ◌≤◌, Bool, true, false, List, [], ◌∷◌, ◌++◌, length, take, drop, Option, Some, None, Result, Err, IsUtf8, IsCharBoundary, SomeIff, chars, option_map, unwrap_or, refl, sym, ap, ◌∙◌, inl, inr, arith, append_assoc, append-nil, length-append, slice_get, encode_utf8_all, IsOk, option_and_then, result_ok, trim_start, common_steps, gets, IsCharBoundary-at_seam, IsCharBoundary-end, chars-encodes, encodes-append, encodes-chars, length-le-encodes, scalars-chars}
 use Rattle.std.specs.Iterator.{SkipsThenYields}
 use Rattle.std.proofs.Math.Utf8.{scalars}
 use Rattle.std.proofs.lemmas.Iterator.Consumers.{YieldsList-from_shown, nth_from_yields_List}
