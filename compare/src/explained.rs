@@ -25,7 +25,7 @@ rows! {
     PANIC_BEFORE_1970: "`Display` of a time before 1970 panics",
     ZEROS_OF_FRACTION: "trailing zeros of a fraction count towards its limits",
     GREEK_LETTER: "the Greek letter U+03BC is an invalid character",
-    CARRY_TOO_LARGE: "`u64::MAX` seconds, then exactly one second in smaller units",
+    CARRY_TOO_LARGE: "at `u64::MAX` whole seconds, nanoseconds reach exactly 10^9",
     NO_DIGIT_AFTER_SPACE: "whitespace at the start, or more than one whitespace character",
     BAD_AFTER_POINT: "an invalid character directly after a point",
     SPACE_AFTER_POINT: "whitespace after a point without digits, and then a letter or the end",
