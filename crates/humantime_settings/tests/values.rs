@@ -144,14 +144,16 @@ fn moments_without_a_text_are_not_written(rt: HostRuntime) -> Result<(), Fail> {
     Ok(())
 }
 
-/// A number that its type parses from a string that it borrows.
+/// A number that its type parses from a string that it borrows. An empty one is zero or rejected.
 #[derive(Debug, Drop)]
-struct Parsed(u64);
+struct Parsed<const EMPTY: bool>(u64);
 
-impl<'de> Deserialize<'de> for Parsed {
-    fn deserialize<F: Format>(_alloc: Global, from: &mut Deserializer<'de, '_, F>) -> Result<Parsed, F::Error> {
-        match from.borrowed_str()?.parse() {
+impl<'de, const EMPTY: bool> Deserialize<'de> for Parsed<EMPTY> {
+    fn deserialize<F: Format>(_alloc: Global, from: &mut Deserializer<'de, '_, F>) -> Result<Parsed<EMPTY>, F::Error> {
+        let text = from.borrowed_str()?;
+        match text.parse() {
             Ok(number) => Ok(Parsed(number)),
+            Err(_) if EMPTY && text.is_empty() => Ok(Parsed(0)),
             Err(_) => Err(from.custom("not a number")),
         }
     }
@@ -159,8 +161,11 @@ impl<'de> Deserialize<'de> for Parsed {
 
 #[test]
 fn a_borrowed_string_is_rejected_by_its_type(rt: HostRuntime) -> Result<(), Fail> {
-    assert_eq!(rt; from_json::<Parsed>(rt.alloc(), "\"70\"")?.0, 70);
-    let error = from_json::<Parsed>(rt.alloc(), "\n\"7x\"").err().ok_or("read")?;
-    assert_eq!(rt; (error.message(), error.line()), ("not a number", Some(2)));
+    assert_eq!(rt; from_json::<Parsed<false>>(rt.alloc(), "\"70\"")?.0, 70);
+    let (alloc, wrong) = (rt.alloc(), "\n\"7x\"");
+    for error in [from_json::<Parsed<false>>(alloc, wrong).err(), from_json::<Parsed<true>>(alloc, wrong).err()] {
+        let error = error.ok_or("read")?;
+        assert_eq!(rt; (error.message(), error.line()), ("not a number", Some(2)));
+    }
     Ok(())
 }
