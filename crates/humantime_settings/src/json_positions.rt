@@ -1,42 +1,63 @@
 //! What a JSON document has where a path leads.
 
-use crate::rejection::{Found, Part};
-use json::{Reader, Scratch, Token};
+use crate::rejection::{Cause, Found, Part, Rejection};
+use json::{MAX_DEPTH, Reader, Scratch, Token};
 use serde::Kind;
 use std::alloc::{AllocError, Global};
 
-/// Returns the offset of a part of the value to which a path leads, and what is there. The path has, for each object and array, the number
-/// of the member or the item, from 0.
+/// Returns the offset of what is rejected, and what is there.
 pub(crate) fn found_at<'a>(
     alloc: Global,
     document: &'a str,
-    path: &[usize],
-    part: Part,
+    rejection: &Rejection,
     scratch: &'a mut Scratch,
 ) -> Result<(usize, Found<'a>), AllocError> {
     let mut reader = Reader::new(document, scratch)?;
-    // For each open object and array, the number of the value that is open or comes next.
-    let mut numbers: Vec<usize> = Vec::new(alloc);
-    for _ in 0..document.len() {
-        let (offset, token) = (reader.offset(), reader.next().unwrap_or(Token::Bad));
-        let found = match token {
-            Token::Key(_) => Part::Key,
-            Token::EndObject | Token::EndArray => {
-                numbers.pop();
-                Part::End
-            }
-            _ => Part::Value,
+    let (mut offset, mut token) = (0, Token::Bad);
+    for number in &rejection.path {
+        (offset, token) = pass_entries(&mut reader, *number);
+    }
+    match rejection.part {
+        Part::Key => {}
+        Part::Value => (offset, token) = (reader.offset(), reader.next().unwrap_or(Token::Bad)),
+        Part::End => (offset, token) = pass_entries(&mut reader, usize::MAX),
+    }
+    let mut found = described(alloc, token)?;
+    if matches!(rejection.cause, Cause::Length | Cause::Long) {
+        found.len = items_left(&mut reader);
+    }
+    Ok((offset, found))
+}
+
+/// Opens an object or an array, and passes so many members or items, or all. Returns the key or the bracket that follows, if one does.
+fn pass_entries<'a>(reader: &mut Reader<'a>, count: usize) -> (usize, Token<'a>) {
+    let is_object = matches!(reader.next(), Some(Token::BeginObject));
+    for passed in 0..=count {
+        let offset = reader.offset();
+        let token = if is_object {
+            reader.next()
+        } else {
+            reader.take_end_array().then_some(Token::EndArray)
         };
-        if found == part && numbers.as_slice() == path {
-            return Ok((offset, described(alloc, token)?));
+        match token {
+            Some(Token::Key(_)) | None if passed < count => {}
+            _ => return (offset, token.unwrap_or(Token::Bad)),
         }
-        match (token, numbers.last_mut()) {
-            (Token::BeginObject | Token::BeginArray, _) => numbers.push(0)?,
-            (Token::Key(_), _) | (_, None) => {}
-            (_, Some(number)) => *number = number.saturating_add(1),
+        if reader.skip_value(MAX_DEPTH).is_err() {
+            break;
         }
     }
-    Ok((document.len(), described(alloc, Token::Bad)?))
+    (reader.offset(), Token::Bad)
+}
+
+/// Returns how many items are left of an array.
+fn items_left(reader: &mut Reader<'_>) -> usize {
+    for count in 0..usize::MAX {
+        if reader.take_end_array() || reader.skip_value(MAX_DEPTH).is_err() {
+            return count;
+        }
+    }
+    usize::MAX
 }
 
 /// Describes the value or the key that begins with a token.
@@ -56,5 +77,10 @@ fn described<'a>(alloc: Global, token: Token<'a>) -> Result<Found<'a>, AllocErro
         Token::BeginArray => (Kind::Seq, String::from_str(alloc, "sequence")?),
         _ => (Kind::Map, String::from_str(alloc, "map")?),
     };
-    Ok(Found { kind, words, text })
+    Ok(Found {
+        kind,
+        words,
+        text,
+        len: 0,
+    })
 }

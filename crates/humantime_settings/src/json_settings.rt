@@ -12,7 +12,7 @@ use crate::error_range::error_from;
 use crate::json_positions::found_at;
 use crate::json_syntax::syntax_error;
 use crate::rejection::{Rejection, range_at};
-use crate::trace::Traced;
+use crate::trace::{Traced, Tried};
 use humantime_std::located::Located;
 use json::Scratch;
 use serde::{Deserialize, Serialize};
@@ -44,14 +44,11 @@ pub fn from_json<'a, T: Deserialize<'a>>(alloc: Global, text: &'a str) -> Result
     ensures position { IfErr result (IsErrorIn text.now) }
     ensures positioned { (message : _) → result ≢ Err (SettingsError.WithoutPosition message) }
 {
-    let error = match serde_json::from_str::<T>(alloc, text) {
-        Ok(value) => return Ok(value),
-        Err(error) => error,
+    let error = match serde_json::from_str::<Tried<T>>(alloc, text) {
+        Ok(Tried(Some(value))) => return Ok(value),
+        Ok(Tried(None)) => value_error::<T>(alloc, text)?,
+        Err(error) => document_error(alloc, text, &error)?,
     };
-    if error.is_memory() {
-        return Err(SettingsError::OutOfMemory);
-    }
-    let error = located::<T>(alloc, text, &error)?;
     Err(SettingsError::At(error_at(alloc, text, error)?))
 }
 
@@ -83,28 +80,21 @@ pub fn to_json<T: Serialize>(alloc: Global, value: &T) -> Result<String, Setting
     }
 }
 
-/// Returns the error of a document with this error. What is not JSON has no other.
-fn located<'a, T: Deserialize<'a>>(
+/// Returns the error of a value that is rejected.
+fn value_error<'a, T: Deserialize<'a>>(
     alloc: Global,
     text: &'a str,
-    error: &serde_json::Error,
 ) -> Result<Located<String>, AllocError> {
-    let mut scratch = Scratch::new(alloc);
-    if !error.is_data() {
-        if let Some((at, message)) = syntax_error(alloc, text, &mut scratch)? {
-            return Ok(error_from(at, String::from_str(alloc, message)?));
-        }
+    if let Some(rejection) = rejection_of::<T>(alloc, text)? {
+        return rejected(alloc, text, &rejection);
     }
-    let Some(rejection) = rejection_of::<T>(alloc, text)? else {
-        return Ok(error_from(error_offset(text, error), message_of(alloc, error)?));
-    };
-    let mut scratch = Scratch::new(alloc);
-    let (at, found) = found_at(alloc, text, &rejection.path, rejection.part, &mut scratch)?;
-    range_at(alloc, text, at, &rejection, &found)
+    match serde_json::from_str::<T>(alloc, text) {
+        Ok(_value) => Ok(error_from(0, String::from_str(alloc, "invalid value")?)),
+        Err(error) => document_error(alloc, text, &error),
+    }
 }
 
-/// Returns why a document does not contain a value, or `None` if it is not JSON or contains one, or if the value borrows the string that
-/// its type rejects.
+/// Returns why a document does not contain a value, or `None` if the type rejects a string that it borrows, which the trace does not have.
 fn rejection_of<'a, T: Deserialize<'a>>(
     alloc: Global,
     text: &'a str,
@@ -113,6 +103,33 @@ fn rejection_of<'a, T: Deserialize<'a>>(
         Ok(Traced(read)) => Ok(read.err()),
         Err(error) if error.is_memory() => Err(AllocError),
         Err(_) => Ok(None),
+    }
+}
+
+/// Returns the error of a value that is rejected for this reason.
+fn rejected(
+    alloc: Global,
+    text: &str,
+    rejection: &Rejection,
+) -> Result<Located<String>, AllocError> {
+    let mut scratch = Scratch::new(alloc);
+    let (at, found) = found_at(alloc, text, rejection, &mut scratch)?;
+    range_at(alloc, text, at, rejection, &found)
+}
+
+/// Returns the error of a document with this error. What is not JSON has no other.
+fn document_error(
+    alloc: Global,
+    text: &str,
+    error: &serde_json::Error,
+) -> Result<Located<String>, AllocError> {
+    if error.is_memory() {
+        return Err(AllocError);
+    }
+    let mut scratch = Scratch::new(alloc);
+    match syntax_error(alloc, text, &mut scratch)? {
+        Some((at, message)) => Ok(error_from(at, String::from_str(alloc, message)?)),
+        None => Ok(error_from(error_offset(text, error), message_of(alloc, error)?)),
     }
 }
 

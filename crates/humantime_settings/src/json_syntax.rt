@@ -46,13 +46,10 @@ pub(crate) fn syntax_error<'a>(
 
 /// Returns what comes next behind this: a key, a value, or the comma or bracket at its end.
 fn next_behind(front: &str, in_object: Option<bool>) -> Part {
-    let is_comma = front.ends_with(',');
-    if front.ends_with('{') || is_comma && matches!(in_object, Some(true)) {
-        Part::Key
-    } else if is_comma || front.is_empty() || front.ends_with([':', '[']) {
-        Part::Value
-    } else {
-        Part::End
+    match (front.as_bytes().last(), in_object) {
+        (Some(b'{'), _) | (Some(b','), Some(true)) => Part::Key,
+        (None | Some(b',' | b':' | b'['), _) => Part::Value,
+        _ => Part::End,
     }
 }
 

@@ -36,7 +36,8 @@ pub(crate) enum Cause {
     /// What is expected behind the name of the field or of the variant.
     UnknownField,
     UnknownVariant,
-    /// It is a sequence with too many items. The message.
+    /// It is a sequence with the wrong number of items, or with too many of them. What is expected.
+    Length,
     Long,
     // The others have no words.
     Duplicate,
@@ -63,6 +64,8 @@ pub(crate) struct Found<'a> {
     pub words: String,
     /// The key or the string, if it is one.
     pub text: &'a str,
+    /// The number of items, if it is a sequence with the wrong number.
+    pub len: usize,
 }
 
 /// Returns the error of what a document has at this offset.
@@ -89,6 +92,10 @@ fn message(alloc: Global, rejection: &Rejection, found: &Found<'_>) -> Result<St
         Cause::UnknownField => return format!(in alloc; "unknown field `{text}`{words}"),
         Cause::UnknownVariant => return format!(in alloc; "unknown variant `{text}`{words}"),
         Cause::Duplicate => return format!(in alloc; "duplicate field `{text}`"),
+        Cause::Length | Cause::Long => return format!(in alloc;
+            "invalid length {}{words}",
+            found.len
+        ),
         Cause::NoUnit => return format!(in alloc; "invalid type: {value}, expected unit"),
         Cause::Range => {
             return format!(in alloc; "invalid value: {value}, expected an integer in range");
@@ -103,7 +110,7 @@ fn message(alloc: Global, rejection: &Rejection, found: &Found<'_>) -> Result<St
             };
             return format!(in alloc; "invalid {what}: {value}, expected {expected}");
         }
-        Cause::Message | Cause::Long => words,
+        Cause::Message => words,
         Cause::NoData => "invalid type: unit variant, expected a variant with data",
         Cause::NoVariant => "wanted exactly 1 element, found 0 elements",
         Cause::TwoVariants => "wanted exactly 1 element, more than 1 element",

@@ -132,8 +132,18 @@ fn located(
         Some(Step::Key(key)) if rejection.part == Part::Key => described_text(alloc, key)?,
         _ => described(alloc, value)?,
     };
-    let at = offset_of(alloc, text, &steps, rejection.part)?;
-    range_at(alloc, text, at, &rejection, &found)
+    let (key, value) = entry_of(alloc, text, &steps)?;
+    let rest = match rejection.part {
+        Part::Key => key,
+        _ => value,
+    };
+    range_at(
+        alloc,
+        text,
+        text.len().saturating_sub(rest.len()),
+        &rejection,
+        &found,
+    )
 }
 
 /// Returns the steps of a path, at most to a date-time, and the value to which they lead.
@@ -167,19 +177,24 @@ fn step_into(value: &Value, number: usize) -> Option<(Step<'_>, &Value)> {
 
 /// Describes a value.
 fn described(alloc: Global, value: &Value) -> Result<Found<'_>, AllocError> {
+    let mut len = 0;
     let (kind, words) = match value {
         Value::String(text) => return described_text(alloc, text),
         Value::Integer(n) => (Kind::Signed, format!(in alloc; "integer `{n}`")?),
         Value::Float(x) => (Kind::Float, format!(in alloc; "floating point `{x:?}`")?),
         Value::Boolean(b) => (Kind::Bool, format!(in alloc; "boolean `{b}`")?),
         Value::Datetime(_) => (Kind::Map, String::from_str(alloc, "datetime")?),
-        Value::Array(_) => (Kind::Seq, String::from_str(alloc, "sequence")?),
+        Value::Array(items) => {
+            len = items.len();
+            (Kind::Seq, String::from_str(alloc, "sequence")?)
+        }
         Value::Table(_) => (Kind::Map, String::from_str(alloc, "map")?),
     };
     Ok(Found {
         kind,
         words,
         text: "",
+        len,
     })
 }
 
@@ -190,17 +205,6 @@ fn described_text(alloc: Global, text: &str) -> Result<Found<'_>, AllocError> {
         kind: Kind::Str,
         words,
         text,
+        len: 0,
     })
-}
-
-/// Returns the offset of a part of the value to which steps lead.
-fn offset_of(
-    alloc: Global,
-    document: &str,
-    steps: &[Step<'_>],
-    part: Part,
-) -> Result<usize, AllocError> {
-    let (key, value) = entry_of(alloc, document, steps)?;
-    let rest = if part == Part::Key { key } else { value };
-    Ok(document.len().saturating_sub(rest.len()))
 }

@@ -28,40 +28,48 @@ impl<'de, T: Deserialize<'de>> Deserialize<'de> for Traced<T> {
         alloc: Global,
         from: &mut Deserializer<'de, '_, F>,
     ) -> Result<Traced<T>, F::Error> {
-        // A token is looked at, so that this takes no memory later.
-        from.peek()?;
-        let start = from.mark();
-        from.release(start);
+        let start = start_of(from)?;
         let mut trace = Trace::new(alloc, from);
         let rejection = match trace.read::<T>(alloc) {
             Ok(value) => return Ok(Traced(Ok(value))),
             Err(stop) => trace.rejection_of(stop)?,
         };
-        from.release(start);
-        pass_rest(from);
+        pass_rest(from, start);
         Ok(Traced(Err(rejection)))
     }
 }
 
-/// Returns what is said of a sequence, the last item of which is one too many. Passes the items that are left.
-fn long<F: Format>(
-    alloc: Global,
-    from: &mut Deserializer<'_, '_, F>,
-    counts: &[usize],
-) -> Result<String, AllocError> {
-    let mut len = counts.last().copied().unwrap_or(1);
-    let size = len.saturating_sub(1);
-    for _ in 0..u64::MAX {
-        if from.skip().is_err() || !from.next_item().unwrap_or(false) {
-            break;
+/// A value, or nothing if a document does not contain it, whose rest is passed then.
+#[derive(Drop)]
+pub(crate) struct Tried<T>(pub Option<T>);
+
+impl<'de, T: Deserialize<'de>> Deserialize<'de> for Tried<T> {
+    fn deserialize<F: Format>(
+        alloc: Global,
+        from: &mut Deserializer<'de, '_, F>,
+    ) -> Result<Tried<T>, F::Error> {
+        let start = start_of(from)?;
+        match T::deserialize(alloc, from) {
+            Ok(value) => return Ok(Tried(Some(value))),
+            Err(error) if from.is_fatal(&error) => return Err(error),
+            Err(_) => {}
         }
-        len = len.saturating_add(1);
+        pass_rest(from, start);
+        Ok(Tried(None))
     }
-    format!(in alloc; "invalid length {len}, expected a tuple of size {size}")
+}
+
+/// Looks at the first token, so that to pass the rest takes no memory.
+fn start_of<F: Format>(from: &mut Deserializer<'_, '_, F>) -> Result<F::Mark, F::Error> {
+    from.peek()?;
+    let start = from.mark();
+    from.release(start);
+    Ok(start)
 }
 
 /// Passes the tokens that are left: one that closes a sequence as its end, and any other as a key.
-fn pass_rest<F: Format>(from: &mut Deserializer<'_, '_, F>) {
+fn pass_rest<F: Format>(from: &mut Deserializer<'_, '_, F>, start: F::Mark) {
+    from.release(start);
     for _ in 0..u64::MAX {
         match from.next_item() {
             Ok(true) => drop(from.next_key(&[])),
@@ -73,18 +81,27 @@ fn pass_rest<F: Format>(from: &mut Deserializer<'_, '_, F>) {
 
 /// Why a step fails.
 #[derive(Drop)]
-enum Stop<E> {
-    /// For another reason than the value.
-    Fatal(E),
+enum Stop {
+    /// For another reason than the value: the trace has the error.
+    Fatal,
+    OutOfMemory,
     At(Rejection),
     /// The last variant is unknown.
     Variant,
+}
+
+impl From<AllocError> for Stop {
+    fn from(_refused: AllocError) -> Stop {
+        Stop::OutOfMemory
+    }
 }
 
 /// The format of another deserializer.
 #[derive(Drop)]
 struct Trace<'a, 'de, 's, F: Format> {
     from: &'a mut Deserializer<'de, 's, F>,
+    /// The last fatal error.
+    fatal: Option<F::Error>,
     steps: Steps,
 }
 
@@ -105,8 +122,6 @@ struct Steps {
     renamed: Vec<Renamed>,
     /// The last variant, if it is unknown.
     variant: Option<Rejection>,
-    /// The count of the map or sequence that has ended last.
-    ended: usize,
 }
 
 /// A key that is not the name of its field, in a map where so many maps and sequences are open.
@@ -130,6 +145,7 @@ impl<'a, 'de, 's, F: Format> Trace<'a, 'de, 's, F> {
     fn new(alloc: Global, from: &'a mut Deserializer<'de, 's, F>) -> Self {
         Trace {
             from,
+            fatal: None,
             steps: Steps {
                 alloc,
                 counts: Vec::new(alloc),
@@ -139,43 +155,36 @@ impl<'a, 'de, 's, F: Format> Trace<'a, 'de, 's, F> {
                 words: String::new(alloc),
                 renamed: Vec::new(alloc),
                 variant: None,
-                ended: 0,
             },
         }
     }
 
-    fn read_owned<T: DeserializeOwned>(&mut self, alloc: Global) -> Result<T, Stop<F::Error>> {
+    fn read_owned<T: DeserializeOwned>(&mut self, alloc: Global) -> Result<T, Stop> {
         T::deserialize_owned(alloc, &mut Deserializer::new(&[], self))
     }
 
-    fn read<T: Deserialize<'de>>(&mut self, alloc: Global) -> Result<T, Stop<F::Error>> {
+    fn read<T: Deserialize<'de>>(&mut self, alloc: Global) -> Result<T, Stop> {
         T::deserialize(alloc, &mut Deserializer::new(&[], self))
     }
 
     /// Returns why the reading has ended.
-    fn rejection_of(self, stop: Stop<F::Error>) -> Result<Rejection, F::Error> {
-        let Trace { from, steps } = self;
-        let mut rejection = match (stop, steps.variant) {
-            (Stop::Fatal(error), _) => return Err(error),
-            (Stop::At(rejection), _) | (Stop::Variant, Some(rejection)) => rejection,
-            (Stop::Variant, None) => return Err(from.invalid()),
+    fn rejection_of(self, stop: Stop) -> Result<Rejection, F::Error> {
+        let Trace { from, fatal, steps } = self;
+        let rejection = match (stop, fatal, steps.variant) {
+            (Stop::Fatal, Some(error), _) => return Err(error),
+            (Stop::OutOfMemory, ..) => return Err(from.no_memory()),
+            (Stop::At(rejection), ..) | (Stop::Variant, _, Some(rejection)) => rejection,
+            _ => return Err(from.invalid()),
         };
         match rejection.cause {
             Cause::Borrowed => Err(from.invalid()),
-            Cause::Long => match long(steps.alloc, from, &steps.counts) {
-                Ok(words) => {
-                    rejection.words = words;
-                    Ok(rejection)
-                }
-                Err(_) => Err(from.no_memory()),
-            },
             _ => Ok(rejection),
         }
     }
 
     /// Returns what a step has read, or that something else is expected.
     #[inline(always)]
-    fn told<V>(&mut self, read: Result<V, F::Error>, expected: &str) -> Result<V, Stop<F::Error>> {
+    fn told<V>(&mut self, read: Result<V, F::Error>, expected: &str) -> Result<V, Stop> {
         self.steps.read();
         match read {
             Ok(value) => Ok(value),
@@ -185,7 +194,7 @@ impl<'a, 'de, 's, F: Format> Trace<'a, 'de, 's, F> {
 
     /// Returns what a step has seen that reads no value. In TOML, a table without the key of a variant is an error of such a step.
     #[inline(always)]
-    fn seen<V>(&self, read: Result<V, F::Error>) -> Result<V, Stop<F::Error>> {
+    fn seen<V>(&mut self, read: Result<V, F::Error>) -> Result<V, Stop> {
         match read {
             Ok(value) => Ok(value),
             Err(error) => Err(self.failed(error, Part::End, Cause::NoVariant, "")),
@@ -193,39 +202,12 @@ impl<'a, 'de, 's, F: Format> Trace<'a, 'de, 's, F> {
     }
 
     #[inline(never)]
-    fn failed(&self, error: F::Error, part: Part, cause: Cause, words: &str) -> Stop<F::Error> {
+    fn failed(&mut self, error: F::Error, part: Part, cause: Cause, words: &str) -> Stop {
         if self.from.is_fatal(&error) {
-            Stop::Fatal(error)
-        } else {
-            self.stop(part, cause, words)
+            self.fatal = Some(error);
+            return Stop::Fatal;
         }
-    }
-
-    /// Returns an error at the current position.
-    fn stop(&self, part: Part, cause: Cause, words: &str) -> Stop<F::Error> {
-        match self.steps.rejection(part, cause, words) {
-            Ok(rejection) => Stop::At(rejection),
-            Err(_) => self.no_memory(),
-        }
-    }
-
-    /// Opens a map or a sequence.
-    fn open(&mut self) -> Result<(), Stop<F::Error>> {
-        match self.steps.counts.push(0) {
-            Ok(()) => Ok(()),
-            Err(_) => Err(self.no_memory()),
-        }
-    }
-
-    /// Returns whether a step has taken a unit.
-    fn took(&mut self, taken: Result<bool, F::Error>) -> Result<bool, Stop<F::Error>> {
-        let is_taken = self.seen(taken)?;
-        if is_taken {
-            self.steps.read();
-        } else {
-            (self.steps.part, self.steps.cause) = (self.steps.next, Cause::NoUnit);
-        }
-        Ok(is_taken)
+        self.steps.stop(part, cause, words)
     }
 }
 
@@ -233,6 +215,29 @@ impl Steps {
     /// Reads what is next.
     fn read(&mut self) {
         (self.part, self.next, self.cause) = (self.next, Part::Value, Cause::Invalid);
+    }
+
+    /// Takes a unit, if there is one.
+    fn took(&mut self, is_taken: bool) -> bool {
+        if is_taken {
+            self.read();
+        } else {
+            (self.part, self.cause) = (self.next, Cause::NoUnit);
+        }
+        is_taken
+    }
+
+    /// Opens a map or a sequence.
+    fn open(&mut self) -> Result<(), AllocError> {
+        Ok(self.counts.push(0)?)
+    }
+
+    /// Returns an error at the current position.
+    fn stop(&self, part: Part, cause: Cause, words: &str) -> Stop {
+        match self.rejection(part, cause, words) {
+            Ok(rejection) => Stop::At(rejection),
+            Err(_) => Stop::OutOfMemory,
+        }
     }
 
     fn rejection(&self, part: Part, cause: Cause, words: &str) -> Result<Rejection, AllocError> {
@@ -261,7 +266,7 @@ impl Steps {
         (self.part, self.next, self.cause) = (part, next, Cause::Invalid);
         if !is_more {
             (self.part, self.next) = (Part::Value, Part::Value);
-            self.ended = self.counts.pop().unwrap_or(0);
+            self.counts.pop();
             return;
         }
         if !self.renamed.is_empty() {
@@ -302,26 +307,28 @@ impl Steps {
     /// Keeps the keys that are not the names of their fields.
     fn rename(&mut self, names: &[Name<'_>]) -> Result<(), AllocError> {
         for name in names {
-            if name.case != Case::AsIs && !name.skipped {
-                let mut key = String::new(self.alloc);
-                name.case.append(name.kind, name.name, &mut key)?;
-                let name = String::from_str(self.alloc, name.name)?;
-                let open = self.counts.len();
-                self.renamed.push(Renamed { open, name, key })?;
+            if !name.skipped && !matches!(name.case, Case::AsIs) {
+                let renamed = Renamed::new(self.alloc, self.counts.len(), name)?;
+                self.renamed.push(renamed)?;
             }
         }
         Ok(())
     }
 }
 
+impl Renamed {
+    fn new(alloc: Global, open: usize, name: &Name<'_>) -> Result<Renamed, AllocError> {
+        let mut key = String::new(alloc);
+        name.case.append(name.kind, name.name, &mut key)?;
+        let name = String::from_str(alloc, name.name)?;
+        Ok(Renamed { open, name, key })
+    }
+}
+
 /// Replaces words by what is said of these names behind one that is unknown.
 fn expect(names: &[Name<'_>], what: &str, words: &mut String) -> Result<(), AllocError> {
     words.clear();
-    let mut count = 0_usize;
-    for name in names {
-        count = count.saturating_add(!name.skipped as usize);
-    }
-    let (mut before, next) = match count {
+    let (mut before, next) = match known(names) {
         0 => {
             words.push_str(", there are no ")?;
             return words.push_str(what);
@@ -341,98 +348,109 @@ fn expect(names: &[Name<'_>], what: &str, words: &mut String) -> Result<(), Allo
     Ok(())
 }
 
+/// Returns how many of these names are known.
+fn known(names: &[Name<'_>]) -> usize {
+    let mut count = 0_usize;
+    for name in names {
+        count = count.saturating_add(!name.skipped as usize);
+    }
+    count
+}
+
 impl<F: Format> Format for Trace<'_, '_, '_, F> {
-    type Error = Stop<F::Error>;
+    type Error = Stop;
 
     type Mark = Back<F::Mark>;
 
-    fn bool(&mut self, _input: &[u8]) -> Result<bool, Stop<F::Error>> {
+    fn bool(&mut self, _input: &[u8]) -> Result<bool, Stop> {
         let read = self.from.bool();
         self.told(read, "a boolean")
     }
 
-    fn i64(&mut self, _input: &[u8]) -> Result<i64, Stop<F::Error>> {
+    fn i64(&mut self, _input: &[u8]) -> Result<i64, Stop> {
         let read = self.from.i64();
         let read = self.told(read, "an integer");
         self.steps.cause = Cause::Range;
         read
     }
 
-    fn u64(&mut self, _input: &[u8]) -> Result<u64, Stop<F::Error>> {
+    fn u64(&mut self, _input: &[u8]) -> Result<u64, Stop> {
         let read = self.from.u64();
         let read = self.told(read, "an integer");
         self.steps.cause = Cause::Range;
         read
     }
 
-    fn i128(&mut self, _input: &[u8]) -> Result<i128, Stop<F::Error>> {
+    fn i128(&mut self, _input: &[u8]) -> Result<i128, Stop> {
         let read = self.from.i128();
         self.told(read, "an integer")
     }
 
-    fn u128(&mut self, _input: &[u8]) -> Result<u128, Stop<F::Error>> {
+    fn u128(&mut self, _input: &[u8]) -> Result<u128, Stop> {
         let read = self.from.u128();
         self.told(read, "an integer")
     }
 
-    fn f32(&mut self, _input: &[u8]) -> Result<f32, Stop<F::Error>> {
+    fn f32(&mut self, _input: &[u8]) -> Result<f32, Stop> {
         let read = self.from.f32();
         self.told(read, "f32")
     }
 
-    fn f64(&mut self, _input: &[u8]) -> Result<f64, Stop<F::Error>> {
+    fn f64(&mut self, _input: &[u8]) -> Result<f64, Stop> {
         let read = self.from.f64();
         self.told(read, "f64")
     }
 
-    fn char(&mut self, _input: &[u8]) -> Result<char, Stop<F::Error>> {
+    fn char(&mut self, _input: &[u8]) -> Result<char, Stop> {
         let read = self.from.char();
         self.told(read, "a character")
     }
 
-    fn plain_str(&mut self, _input: &[u8]) -> Result<(usize, usize), Stop<F::Error>> {
+    fn plain_str(&mut self, _input: &[u8]) -> Result<(usize, usize), Stop> {
         let read = self.from.borrowed_str();
         self.told(read, "a borrowed string")?;
         self.steps.cause = Cause::Borrowed;
         Ok((0, 0))
     }
 
-    fn plain_bytes(&mut self, input: &[u8]) -> Result<(usize, usize), Stop<F::Error>> {
+    fn plain_bytes(&mut self, input: &[u8]) -> Result<(usize, usize), Stop> {
         self.plain_str(input)
     }
 
-    fn string(&mut self, alloc: Global, _input: &[u8]) -> Result<String, Stop<F::Error>> {
+    fn string(&mut self, alloc: Global, _input: &[u8]) -> Result<String, Stop> {
         let read = self.from.string(alloc);
         self.told(read, "a string")
     }
 
-    fn byte_buf(&mut self, alloc: Global, _input: &[u8]) -> Result<Vec<u8>, Stop<F::Error>> {
+    fn byte_buf(&mut self, alloc: Global, _input: &[u8]) -> Result<Vec<u8>, Stop> {
         let read = self.from.byte_buf(alloc);
         self.told(read, "byte array")
     }
 
-    fn peek(&mut self, _input: &[u8]) -> Result<Kind, Stop<F::Error>> {
+    fn peek(&mut self, _input: &[u8]) -> Result<Kind, Stop> {
         let kind = self.from.peek();
         self.seen(kind)
     }
 
-    fn take_unit(&mut self, _input: &[u8]) -> Result<bool, Stop<F::Error>> {
+    fn take_unit(&mut self, _input: &[u8]) -> Result<bool, Stop> {
         let taken = self.from.take_unit();
-        self.took(taken)
+        let is_taken = self.seen(taken)?;
+        Ok(self.steps.took(is_taken))
     }
 
-    fn take_none(&mut self, _input: &[u8]) -> Result<bool, Stop<F::Error>> {
+    fn take_none(&mut self, _input: &[u8]) -> Result<bool, Stop> {
         let taken = self.from.take_none();
-        self.took(taken)
+        let is_taken = self.seen(taken)?;
+        Ok(self.steps.took(is_taken))
     }
 
-    fn begin_seq(&mut self, _input: &[u8]) -> Result<(), Stop<F::Error>> {
+    fn begin_seq(&mut self, _input: &[u8]) -> Result<(), Stop> {
         let begun = self.from.begin_seq();
         self.told(begun, "a sequence")?;
-        self.open()
+        Ok(self.steps.open()?)
     }
 
-    fn next_item(&mut self, _input: &[u8]) -> Result<bool, Stop<F::Error>> {
+    fn next_item(&mut self, _input: &[u8]) -> Result<bool, Stop> {
         let is_more = self.from.next_item();
         let is_more = self.seen(is_more)?;
         self.steps.pass(is_more, Part::Value, Part::Value);
@@ -442,7 +460,7 @@ impl<F: Format> Format for Trace<'_, '_, '_, F> {
         Ok(is_more)
     }
 
-    fn end_tuple(&mut self, _input: &[u8]) -> Result<(), Stop<F::Error>> {
+    fn end_tuple(&mut self, _input: &[u8]) -> Result<(), Stop> {
         if self.next_item(&[])? {
             Err(self.wrong_len())
         } else {
@@ -450,52 +468,48 @@ impl<F: Format> Format for Trace<'_, '_, '_, F> {
         }
     }
 
-    fn begin_struct(&mut self, _input: &[u8]) -> Result<bool, Stop<F::Error>> {
+    fn begin_struct(&mut self, _input: &[u8]) -> Result<bool, Stop> {
         let begun = self.from.begin_struct();
         let is_seq = self.told(begun, "a map")?;
-        self.open()?;
+        self.steps.open()?;
         Ok(is_seq)
     }
 
-    fn begin_map(&mut self, _input: &[u8]) -> Result<(), Stop<F::Error>> {
+    fn begin_map(&mut self, _input: &[u8]) -> Result<(), Stop> {
         let begun = self.from.begin_map();
         self.told(begun, "a map")?;
-        self.open()
+        Ok(self.steps.open()?)
     }
 
-    fn next_key(
-        &mut self,
-        _input: &[u8],
-        names: &[Name<'_>],
-    ) -> Result<Option<usize>, Stop<F::Error>> {
+    fn next_key(&mut self, _input: &[u8], names: &[Name<'_>]) -> Result<Option<usize>, Stop> {
         let found = self.from.next_key(names);
         let found = self.seen(found)?;
         self.steps.pass(found.is_some(), Part::Key, Part::Value);
-        let is_known = found.is_some_and(|at| at < names.len());
-        if !is_known && self.steps.keep(found, names).is_err() {
-            return Err(self.no_memory());
+        match found {
+            Some(at) if at < names.len() => {}
+            _ => self.steps.keep(found, names)?,
         }
         Ok(found)
     }
 
-    fn next_entry(&mut self, _input: &[u8]) -> Result<bool, Stop<F::Error>> {
+    fn next_entry(&mut self, _input: &[u8]) -> Result<bool, Stop> {
         let is_more = self.from.next_entry();
         let is_more = self.seen(is_more)?;
         self.steps.pass(is_more, Part::Key, Part::Key);
         Ok(is_more)
     }
 
-    fn variant(&mut self, _input: &[u8], names: &[Name<'_>]) -> Result<usize, Stop<F::Error>> {
+    fn variant(&mut self, _input: &[u8], names: &[Name<'_>]) -> Result<usize, Stop> {
         let found = self.from.variant(names);
         let found = self.told(found, "variant identifier")?;
         self.steps.cause = Cause::NoData;
-        if found >= names.len() && self.steps.keep_variant(names).is_err() {
-            return Err(self.no_memory());
+        if found >= names.len() {
+            self.steps.keep_variant(names)?;
         }
         Ok(found)
     }
 
-    fn skip(&mut self, _input: &[u8]) -> Result<(), Stop<F::Error>> {
+    fn skip(&mut self, _input: &[u8]) -> Result<(), Stop> {
         let skipped = self.from.skip();
         self.told(skipped, "a value")
     }
@@ -523,60 +537,67 @@ impl<F: Format> Format for Trace<'_, '_, '_, F> {
         self.from.release(mark.mark)
     }
 
-    fn is_fatal(&self, stop: &Stop<F::Error>) -> bool {
+    fn is_fatal(&self, stop: &Stop) -> bool {
         match stop {
             Stop::At(rejection) => matches!(rejection.cause, Cause::Borrowed),
-            _ => matches!(stop, Stop::Fatal(_)),
+            Stop::Fatal | Stop::OutOfMemory => true,
+            Stop::Variant => false,
         }
     }
 
-    fn missing(&self, name: &str) -> Stop<F::Error> {
-        for renamed in &self.steps.renamed {
-            if renamed.open == self.steps.counts.len() && renamed.name.as_str() == name {
-                return self.stop(Part::End, Cause::Missing, renamed.key.as_str());
+    fn missing(&self, name: &str) -> Stop {
+        let steps = &self.steps;
+        for renamed in &steps.renamed {
+            if renamed.open == steps.counts.len() && renamed.name.as_str() == name {
+                return steps.stop(Part::End, Cause::Missing, renamed.key.as_str());
             }
         }
-        self.stop(Part::End, Cause::Missing, name)
+        steps.stop(Part::End, Cause::Missing, name)
     }
 
-    fn duplicate(&self, _name: &str) -> Stop<F::Error> {
-        self.stop(Part::Key, Cause::Duplicate, "")
+    fn duplicate(&self, _name: &str) -> Stop {
+        self.steps.stop(Part::Key, Cause::Duplicate, "")
     }
 
-    fn unknown_key(&self) -> Stop<F::Error> {
-        self.stop(Part::Key, Cause::UnknownField, self.steps.words.as_str())
+    fn unknown_key(&self) -> Stop {
+        self.steps
+            .stop(Part::Key, Cause::UnknownField, self.steps.words.as_str())
     }
 
-    fn unknown_variant(&self) -> Stop<F::Error> {
+    fn unknown_variant(&self) -> Stop {
         Stop::Variant
     }
 
-    fn wrong_len(&self) -> Stop<F::Error> {
-        if matches!(self.steps.cause, Cause::Long) {
-            return self.stop(Part::Value, Cause::Long, "");
+    fn wrong_len(&self) -> Stop {
+        match (self.steps.cause, self.steps.counts.last()) {
+            (Cause::Long, Some(count)) => {
+                let size = count.saturating_sub(1);
+                let words = InlineText::<60>::of(", expected a tuple of size ").and(size, 20);
+                self.steps.stop(Part::Value, Cause::Long, words.as_str())
+            }
+            _ => self.steps.stop(Part::Value, Cause::Length, ""),
         }
-        let words = InlineText::<40>::of("invalid length ").and(self.steps.ended, 20);
-        self.stop(Part::Value, Cause::Message, words.as_str())
     }
 
-    fn invalid(&self) -> Stop<F::Error> {
+    fn invalid(&self) -> Stop {
         let cause = match self.steps.cause {
             Cause::Long => Cause::Invalid,
             cause => cause,
         };
-        self.stop(self.steps.part, cause, self.steps.words.as_str())
+        self.steps
+            .stop(self.steps.part, cause, self.steps.words.as_str())
     }
 
-    fn no_memory(&self) -> Stop<F::Error> {
-        Stop::Fatal(self.from.no_memory())
+    fn no_memory(&self) -> Stop {
+        Stop::OutOfMemory
     }
 
-    fn custom(&self, message: &str) -> Stop<F::Error> {
+    fn custom(&self, message: &str) -> Stop {
         let cause = match self.steps.cause {
             Cause::Borrowed => Cause::Borrowed,
             _ if message.is_empty() => Cause::Invalid,
             _ => Cause::Message,
         };
-        self.stop(self.steps.part, cause, message)
+        self.steps.stop(self.steps.part, cause, message)
     }
 }
