@@ -2,12 +2,10 @@
 
 use crate::rejection::{Cause, Found, Part, Rejection};
 use json::{MAX_DEPTH, Reader, Scratch, Token};
-use serde::Kind;
-use std::alloc::{AllocError, Global};
+use std::alloc::AllocError;
 
 /// Returns the offset of what is rejected, and what is there.
 pub(crate) fn found_at<'a>(
-    alloc: Global,
     document: &'a str,
     rejection: &Rejection,
     scratch: &'a mut Scratch,
@@ -22,11 +20,10 @@ pub(crate) fn found_at<'a>(
         Part::Value => (offset, token) = (reader.offset(), reader.next().unwrap_or(Token::Bad)),
         Part::End => (offset, token) = pass_entries(&mut reader, usize::MAX),
     }
-    let mut found = described(alloc, token)?;
     if matches!(rejection.cause, Cause::Length | Cause::Long) {
-        found.len = items_left(&mut reader);
+        return Ok((offset, Found::Seq(items_left(&mut reader))));
     }
-    Ok((offset, found))
+    Ok((offset, described(token)))
 }
 
 /// Opens an object or an array, and passes so many members or items, or all. Returns the key or the bracket that follows, if one does.
@@ -61,26 +58,13 @@ fn items_left(reader: &mut Reader<'_>) -> usize {
 }
 
 /// Describes the value or the key that begins with a token.
-fn described<'a>(alloc: Global, token: Token<'a>) -> Result<Found<'a>, AllocError> {
-    let mut text = "";
-    let (kind, words) = match token {
-        Token::String(string) | Token::Key(string) => {
-            text = string;
-            (Kind::Str, format!(in alloc; "string {string:?}")?)
-        }
-        Token::Number(n) if n.contains(['.', 'e', 'E']) => {
-            (Kind::Float, format!(in alloc; "floating point `{n}`")?)
-        }
-        Token::Number(n) => (Kind::Signed, format!(in alloc; "integer `{n}`")?),
-        Token::Bool(b) => (Kind::Bool, format!(in alloc; "boolean `{b}`")?),
-        Token::Null => (Kind::Unit, String::from_str(alloc, "null")?),
-        Token::BeginArray => (Kind::Seq, String::from_str(alloc, "sequence")?),
-        _ => (Kind::Map, String::from_str(alloc, "map")?),
-    };
-    Ok(Found {
-        kind,
-        words,
-        text,
-        len: 0,
-    })
+fn described(token: Token<'_>) -> Found<'_> {
+    match token {
+        Token::String(text) | Token::Key(text) => Found::Text(text),
+        Token::Number(digits) => Found::Number(digits),
+        Token::Bool(b) => Found::Bool(b),
+        Token::Null => Found::Null,
+        Token::BeginArray => Found::Seq(0),
+        _ => Found::Map,
+    }
 }

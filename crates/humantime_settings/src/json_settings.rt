@@ -12,13 +12,13 @@ use crate::error_range::error_from;
 use crate::json_positions::found_at;
 use crate::json_syntax::syntax_error;
 use crate::rejection::{Rejection, range_at};
-use crate::trace::{Traced, Tried};
+use crate::trace::Traced;
 use humantime_std::located::Located;
 use json::Scratch;
 use serde::{Deserialize, Serialize};
 use std::alloc::{AllocError, Global};
 
-/// Reads settings in JSON.
+/// Reads settings in JSON. Until it returns, it keeps the tokens of the document in memory.
 ///
 /// # Errors
 ///
@@ -44,9 +44,9 @@ pub fn from_json<'a, T: Deserialize<'a>>(alloc: Global, text: &'a str) -> Result
     ensures position { IfErr result (IsErrorIn text.now) }
     ensures positioned { (message : _) → result ≢ Err (SettingsError.WithoutPosition message) }
 {
-    let error = match serde_json::from_str::<Tried<T>>(alloc, text) {
-        Ok(Tried(Some(value))) => return Ok(value),
-        Ok(Tried(None)) => value_error::<T>(alloc, text)?,
+    let error = match serde_json::from_str::<Traced<T>>(alloc, text) {
+        Ok(Traced(Ok(value))) => return Ok(value),
+        Ok(Traced(Err(rejection))) => rejected(alloc, text, &rejection)?,
         Err(error) => document_error(alloc, text, &error)?,
     };
     Err(SettingsError::At(error_at(alloc, text, error)?))
@@ -80,41 +80,15 @@ pub fn to_json<T: Serialize>(alloc: Global, value: &T) -> Result<String, Setting
     }
 }
 
-/// Returns the error of a value that is rejected.
-fn value_error<'a, T: Deserialize<'a>>(
-    alloc: Global,
-    text: &'a str,
-) -> Result<Located<String>, AllocError> {
-    if let Some(rejection) = rejection_of::<T>(alloc, text)? {
-        return rejected(alloc, text, &rejection);
-    }
-    match serde_json::from_str::<T>(alloc, text) {
-        Ok(_value) => Ok(error_from(0, String::from_str(alloc, "invalid value")?)),
-        Err(error) => document_error(alloc, text, &error),
-    }
-}
-
-/// Returns why a document does not contain a value, or `None` if the type rejects a string that it borrows, which the trace does not have.
-fn rejection_of<'a, T: Deserialize<'a>>(
-    alloc: Global,
-    text: &'a str,
-) -> Result<Option<Rejection>, AllocError> {
-    match serde_json::from_str::<Traced<T>>(alloc, text) {
-        Ok(Traced(read)) => Ok(read.err()),
-        Err(error) if error.is_memory() => Err(AllocError),
-        Err(_) => Ok(None),
-    }
-}
-
-/// Returns the error of a value that is rejected for this reason.
+/// Returns the error of a value.
 fn rejected(
     alloc: Global,
     text: &str,
     rejection: &Rejection,
 ) -> Result<Located<String>, AllocError> {
     let mut scratch = Scratch::new(alloc);
-    let (at, found) = found_at(alloc, text, rejection, &mut scratch)?;
-    range_at(alloc, text, at, rejection, &found)
+    let (at, found) = found_at(text, rejection, &mut scratch)?;
+    range_at(alloc, text, at, rejection, found)
 }
 
 /// Returns the error of a document with this error. What is not JSON has no other.

@@ -2,8 +2,8 @@
 
 use crate::error_range::{error_from, error_in};
 use humantime_std::located::Located;
-use serde::Kind;
 use std::alloc::{AllocError, Global};
+use std::fmt::{self, Display};
 
 /// An error of a value.
 #[derive(Drop)]
@@ -57,15 +57,48 @@ pub(crate) enum Cause {
 }
 
 /// What a document has where an error is.
-#[derive(Drop)]
-pub(crate) struct Found<'a> {
-    pub kind: Kind,
-    /// What `serde` calls it.
-    pub words: String,
-    /// The key or the string, if it is one.
-    pub text: &'a str,
-    /// The number of items, if it is a sequence with the wrong number.
-    pub len: usize,
+#[derive(Clone, Copy)]
+pub(crate) enum Found<'a> {
+    /// A string or a key.
+    Text(&'a str),
+    Integer(i64),
+    Float(f64),
+    /// A number, as it is written.
+    Number(&'a str),
+    Bool(bool),
+    Null,
+    Datetime,
+    /// A sequence, and how many items it has, if this is asked for.
+    Seq(usize),
+    Map,
+}
+
+impl Found<'_> {
+    fn is_integer(self) -> bool {
+        match self {
+            Found::Integer(_) => true,
+            Found::Number(digits) => !digits.contains(['.', 'e', 'E']),
+            _ => false,
+        }
+    }
+}
+
+/// Writes what `serde` calls it.
+impl Display for Found<'_> {
+    fn fmt<W: fmt::Write>(&self, f: &mut fmt::Formatter<W>) -> fmt::Result {
+        match self {
+            Found::Text(text) => write!(f, "string {text:?}"),
+            Found::Integer(n) => write!(f, "integer `{n}`"),
+            Found::Float(x) => write!(f, "floating point `{x:?}`"),
+            Found::Number(digits) if self.is_integer() => write!(f, "integer `{digits}`"),
+            Found::Number(digits) => write!(f, "floating point `{digits}`"),
+            Found::Bool(b) => write!(f, "boolean `{b}`"),
+            Found::Null => f.write_str("null"),
+            Found::Datetime => f.write_str("datetime"),
+            Found::Seq(_) => f.write_str("sequence"),
+            Found::Map => f.write_str("map"),
+        }
+    }
 }
 
 /// Returns the error of what a document has at this offset.
@@ -74,38 +107,39 @@ pub(crate) fn range_at(
     document: &str,
     at: usize,
     rejection: &Rejection,
-    found: &Found<'_>,
+    found: Found<'_>,
 ) -> Result<Located<String>, AllocError> {
     let message = message(alloc, rejection, found)?;
-    if found.kind == Kind::Str {
-        if let Some(error) = error_in(alloc, &message, document, at, found.text)? {
+    if let Found::Text(text) = found {
+        if let Some(error) = error_in(alloc, &message, document, at, text)? {
             return Ok(error);
         }
     }
     Ok(error_from(at, message))
 }
 
-fn message(alloc: Global, rejection: &Rejection, found: &Found<'_>) -> Result<String, AllocError> {
-    let (words, text, value) = (rejection.words.as_str(), found.text, &found.words);
+fn message(alloc: Global, rejection: &Rejection, found: Found<'_>) -> Result<String, AllocError> {
+    let (words, value) = (rejection.words.as_str(), found);
+    let (text, len) = match found {
+        Found::Text(text) => (text, 0),
+        Found::Seq(len) => ("", len),
+        _ => ("", 0),
+    };
     let message = match rejection.cause {
         Cause::Missing => return format!(in alloc; "missing field `{words}`"),
         Cause::UnknownField => return format!(in alloc; "unknown field `{text}`{words}"),
         Cause::UnknownVariant => return format!(in alloc; "unknown variant `{text}`{words}"),
         Cause::Duplicate => return format!(in alloc; "duplicate field `{text}`"),
-        Cause::Length | Cause::Long => return format!(in alloc;
-            "invalid length {}{words}",
-            found.len
-        ),
+        Cause::Length | Cause::Long => return format!(in alloc; "invalid length {len}{words}"),
         Cause::NoUnit => return format!(in alloc; "invalid type: {value}, expected unit"),
         Cause::Range => {
             return format!(in alloc; "invalid value: {value}, expected an integer in range");
         }
         Cause::Expected => {
-            let (what, expected) = match (words, found.kind) {
-                ("an integer", Kind::Signed) => ("value", "an integer in range"),
-                ("a character", Kind::Str) | ("byte array", Kind::Seq) | ("f32", Kind::Float) => (
-                    "value", words,
-                ),
+            let (what, expected) = match (words, found) {
+                ("an integer", _) if found.is_integer() => ("value", "an integer in range"),
+                ("a character", Found::Text(_)) | ("byte array", Found::Seq(_)) => ("value", words),
+                ("f32", Found::Float(_) | Found::Number(_)) => ("value", words),
                 _ => ("type", words),
             };
             return format!(in alloc; "invalid {what}: {value}, expected {expected}");

@@ -10,7 +10,7 @@ use crate::rejection::{Cause, Found, Part, Rejection, range_at};
 use crate::toml_positions::{Step, entry_of, wrong_part};
 use crate::trace::Traced;
 use humantime_std::located::Located;
-use serde::{DeserializeOwned, Kind, Serialize};
+use serde::{DeserializeOwned, Serialize};
 use std::alloc::{AllocError, Global};
 use toml::Value;
 use toml_parser::ErrorKind;
@@ -129,21 +129,17 @@ fn located(
         rejection.words = String::from_str(alloc, "a map")?;
     }
     let found = match steps.last() {
-        Some(Step::Key(key)) if rejection.part == Part::Key => described_text(alloc, key)?,
-        _ => described(alloc, value)?,
+        Some(Step::Key(key)) if rejection.part == Part::Key => Found::Text(key),
+        _ => described(value),
     };
     let (key, value) = entry_of(alloc, text, &steps)?;
-    let rest = match rejection.part {
-        Part::Key => key,
-        _ => value,
+    let rest = if rejection.part == Part::Key {
+        key
+    } else {
+        value
     };
-    range_at(
-        alloc,
-        text,
-        text.len().saturating_sub(rest.len()),
-        &rejection,
-        &found,
-    )
+    let at = text.len().saturating_sub(rest.len());
+    range_at(alloc, text, at, &rejection, found)
 }
 
 /// Returns the steps of a path, at most to a date-time, and the value to which they lead.
@@ -176,35 +172,14 @@ fn step_into(value: &Value, number: usize) -> Option<(Step<'_>, &Value)> {
 }
 
 /// Describes a value.
-fn described(alloc: Global, value: &Value) -> Result<Found<'_>, AllocError> {
-    let mut len = 0;
-    let (kind, words) = match value {
-        Value::String(text) => return described_text(alloc, text),
-        Value::Integer(n) => (Kind::Signed, format!(in alloc; "integer `{n}`")?),
-        Value::Float(x) => (Kind::Float, format!(in alloc; "floating point `{x:?}`")?),
-        Value::Boolean(b) => (Kind::Bool, format!(in alloc; "boolean `{b}`")?),
-        Value::Datetime(_) => (Kind::Map, String::from_str(alloc, "datetime")?),
-        Value::Array(items) => {
-            len = items.len();
-            (Kind::Seq, String::from_str(alloc, "sequence")?)
-        }
-        Value::Table(_) => (Kind::Map, String::from_str(alloc, "map")?),
-    };
-    Ok(Found {
-        kind,
-        words,
-        text: "",
-        len,
-    })
-}
-
-/// Describes a string or a key.
-fn described_text(alloc: Global, text: &str) -> Result<Found<'_>, AllocError> {
-    let words = format!(in alloc; "string {text:?}")?;
-    Ok(Found {
-        kind: Kind::Str,
-        words,
-        text,
-        len: 0,
-    })
+fn described(value: &Value) -> Found<'_> {
+    match value {
+        Value::String(text) => Found::Text(text.as_str()),
+        Value::Integer(n) => Found::Integer(*n),
+        Value::Float(x) => Found::Float(*x),
+        Value::Boolean(b) => Found::Bool(*b),
+        Value::Datetime(_) => Found::Datetime,
+        Value::Array(items) => Found::Seq(items.len()),
+        Value::Table(_) => Found::Map,
+    }
 }

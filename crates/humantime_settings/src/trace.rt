@@ -23,53 +23,40 @@ impl<T: DeserializeOwned> DeserializeOwned for Traced<T> {
 }
 
 impl<'de, T: Deserialize<'de>> Deserialize<'de> for Traced<T> {
-    /// Of a document with a value that is rejected, passes the rest.
+    /// Reads a value that is rejected once more, step by step, and passes the rest of the document.
     fn deserialize<F: Format>(
         alloc: Global,
         from: &mut Deserializer<'de, '_, F>,
     ) -> Result<Traced<T>, F::Error> {
-        let start = start_of(from)?;
-        let mut trace = Trace::new(alloc, from);
-        let rejection = match trace.read::<T>(alloc) {
-            Ok(value) => return Ok(Traced(Ok(value))),
-            Err(stop) => trace.rejection_of(stop)?,
+        let start = from.mark();
+        let error = match T::deserialize(alloc, from) {
+            Ok(value) => {
+                from.release(start);
+                return Ok(Traced(Ok(value)));
+            }
+            Err(error) => error,
         };
-        pass_rest(from, start);
+        if from.is_fatal(&error) {
+            return Err(error);
+        }
+        from.rewind(start);
+        let mut trace = Trace::new(alloc, from);
+        let Err(stop) = trace.read::<T>(alloc) else {
+            return Err(error);
+        };
+        let rejection = match trace.rejection_of(stop) {
+            Ok(rejection) => rejection,
+            Err(fatal) if from.is_fatal(&fatal) => return Err(fatal),
+            Err(_) => return Err(error),
+        };
+        from.release(start);
+        pass_rest(from);
         Ok(Traced(Err(rejection)))
     }
 }
 
-/// A value, or nothing if a document does not contain it, whose rest is passed then.
-#[derive(Drop)]
-pub(crate) struct Tried<T>(pub Option<T>);
-
-impl<'de, T: Deserialize<'de>> Deserialize<'de> for Tried<T> {
-    fn deserialize<F: Format>(
-        alloc: Global,
-        from: &mut Deserializer<'de, '_, F>,
-    ) -> Result<Tried<T>, F::Error> {
-        let start = start_of(from)?;
-        match T::deserialize(alloc, from) {
-            Ok(value) => return Ok(Tried(Some(value))),
-            Err(error) if from.is_fatal(&error) => return Err(error),
-            Err(_) => {}
-        }
-        pass_rest(from, start);
-        Ok(Tried(None))
-    }
-}
-
-/// Looks at the first token, so that to pass the rest takes no memory.
-fn start_of<F: Format>(from: &mut Deserializer<'_, '_, F>) -> Result<F::Mark, F::Error> {
-    from.peek()?;
-    let start = from.mark();
-    from.release(start);
-    Ok(start)
-}
-
 /// Passes the tokens that are left: one that closes a sequence as its end, and any other as a key.
-fn pass_rest<F: Format>(from: &mut Deserializer<'_, '_, F>, start: F::Mark) {
-    from.release(start);
+fn pass_rest<F: Format>(from: &mut Deserializer<'_, '_, F>) {
     for _ in 0..u64::MAX {
         match from.next_item() {
             Ok(true) => drop(from.next_key(&[])),
@@ -122,6 +109,9 @@ struct Steps {
     renamed: Vec<Renamed>,
     /// The last variant, if it is unknown.
     variant: Option<Rejection>,
+    /// How many entries or items the map or sequence has that has ended last, and whether any key so far is unknown.
+    ended: usize,
+    has_unknown: bool,
 }
 
 /// A key that is not the name of its field, in a map where so many maps and sequences are open.
@@ -155,6 +145,8 @@ impl<'a, 'de, 's, F: Format> Trace<'a, 'de, 's, F> {
                 words: String::new(alloc),
                 renamed: Vec::new(alloc),
                 variant: None,
+                ended: 0,
+                has_unknown: false,
             },
         }
     }
@@ -266,7 +258,7 @@ impl Steps {
         (self.part, self.next, self.cause) = (part, next, Cause::Invalid);
         if !is_more {
             (self.part, self.next) = (Part::Value, Part::Value);
-            self.counts.pop();
+            self.ended = self.counts.pop().unwrap_or(0);
             return;
         }
         if !self.renamed.is_empty() {
@@ -284,7 +276,10 @@ impl Steps {
         match (found, names) {
             (Some(_), []) => self.cause = Cause::TwoVariants,
             (Some(_), _) if are_variants => self.keep_variant(names)?,
-            (Some(_), _) => expect(names, "fields", &mut self.words)?,
+            (Some(_), _) => {
+                self.has_unknown = true;
+                expect(names, "fields", &mut self.words)?;
+            }
             (None, _) if are_variants => (self.part, self.cause) = (Part::End, Cause::NoVariant),
             (None, [name]) => {
                 (self.part, self.cause) = (Part::End, Cause::Missing);
@@ -304,8 +299,11 @@ impl Steps {
         Ok(())
     }
 
-    /// Keeps the keys that are not the names of their fields.
+    /// Keeps the keys that are not the names of their fields, unless the map has them all.
     fn rename(&mut self, names: &[Name<'_>]) -> Result<(), AllocError> {
+        if self.ended >= names.len() && !self.has_unknown {
+            return Ok(());
+        }
         for name in names {
             if !name.skipped && !matches!(name.case, Case::AsIs) {
                 let renamed = Renamed::new(self.alloc, self.counts.len(), name)?;
