@@ -20,10 +20,11 @@ pub(crate) fn found_at<'a>(
         Part::Value => (offset, token) = (reader.offset(), reader.next().unwrap_or(Token::Bad)),
         Part::End => (offset, token) = pass_entries(&mut reader, usize::MAX),
     }
-    if matches!(rejection.cause, Cause::Length | Cause::Long) {
-        return Ok((offset, Found::Seq(items_left(&mut reader))));
-    }
-    Ok((offset, described(token)))
+    let found = match (token, rejection.cause) {
+        (Token::BeginArray, Cause::Length | Cause::Long) => Found::Seq(items_left(&mut reader)),
+        _ => described(token),
+    };
+    Ok((offset, found))
 }
 
 /// Opens an object or an array, and passes so many members or items, or all. Returns the key or the bracket that follows, if one does.

@@ -22,7 +22,7 @@ use std::alloc::{AllocError, Global};
 ///
 /// # Errors
 ///
-/// Returns [`SettingsError::At`] with the first error, and [`SettingsError::OutOfMemory`] if an allocation fails. The position is
+/// Returns [`SettingsError::At`] for an error in the document, and [`SettingsError::OutOfMemory`] if an allocation fails. The position is
 ///
 /// - in a string that is no duration or timestamp: what is wrong in it;
 /// - of another wrong value, of an unknown key or of a duplicate one: its start;
@@ -101,10 +101,12 @@ fn document_error(
         return Err(AllocError);
     }
     let mut scratch = Scratch::new(alloc);
-    match syntax_error(alloc, text, &mut scratch)? {
-        Some((at, message)) => Ok(error_from(at, String::from_str(alloc, message)?)),
-        None => Ok(error_from(error_offset(text, error), message_of(alloc, error)?)),
+    if !error.is_data() {
+        if let Some((at, message)) = syntax_error(alloc, text, &mut scratch)? {
+            return Ok(error_from(at, String::from_str(alloc, message)?));
+        }
     }
+    Ok(error_from(error_offset(text, error), message_of(alloc, error)?))
 }
 
 /// Returns the message of an error without its position.

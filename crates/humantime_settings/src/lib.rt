@@ -1,5 +1,5 @@
-//! Settings with durations and timestamps as strings: `serde` reads and writes them in JSON, TOML or another format. Errors of the
-//! first two have a position.
+//! Settings with durations and timestamps as strings: `serde` reads and writes them in JSON, TOML or another format. Errors of
+//! reading the first two have a position.
 //!
 //! - [`#[serde(with = "humantime_settings")]`](Field) marks a field of a type that derives `Serialize` or `Deserialize`: a duration, a
 //!   timestamp, or a list or a map of these. An `Option` also needs `default`, as in `#[serde(default, with = "humantime_settings")]`, to

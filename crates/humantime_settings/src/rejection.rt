@@ -36,10 +36,11 @@ pub(crate) enum Cause {
     /// What is expected behind the name of the field or of the variant.
     UnknownField,
     UnknownVariant,
-    /// It is a sequence with the wrong number of items, or with too many of them. What is expected.
-    Length,
+    /// It is a sequence with too many items. What is expected.
     Long,
     // The others have no words.
+    /// It is a sequence with the wrong number of items.
+    Length,
     Duplicate,
     /// It is an integer that the type does not contain.
     Range,

@@ -19,8 +19,8 @@ use toml_parser::ErrorKind;
 ///
 /// # Errors
 ///
-/// Returns [`SettingsError::At`] where the document is not TOML, and with an error of a value or a key. Of several wrong values, the one
-/// whose keys sort first has the error. The position is
+/// Returns [`SettingsError::At`] where the document is not TOML, and with an error of a value or a key: of several, the one whose keys sort
+/// first, but an enum's tag before, and flattened keys after all others. The position is
 ///
 /// - in a string or a key that is no duration or timestamp: what is wrong in it;
 /// - of another wrong value, or of an unknown or a duplicate key, or the part of it that is wrong: its start;

@@ -28,6 +28,8 @@ impl<'de, T: Deserialize<'de>> Deserialize<'de> for Traced<T> {
         alloc: Global,
         from: &mut Deserializer<'de, '_, F>,
     ) -> Result<Traced<T>, F::Error> {
+        // A token is looked at, so that to pass the rest takes no memory.
+        from.peek()?;
         let start = from.mark();
         let error = match T::deserialize(alloc, from) {
             Ok(value) => {
@@ -109,7 +111,7 @@ struct Steps {
     renamed: Vec<Renamed>,
     /// The last variant, if it is unknown.
     variant: Option<Rejection>,
-    /// How many entries or items the map or sequence has that has ended last, and whether any key so far is unknown.
+    /// How many entries or items the map or sequence has that has ended last, and whether any key so far is unknown or read again.
     ended: usize,
     has_unknown: bool,
 }
@@ -524,6 +526,7 @@ impl<F: Format> Format for Trace<'_, '_, '_, F> {
     fn rewind(&mut self, mark: Back<F::Mark>) {
         self.from.rewind(mark.mark);
         let steps = &mut self.steps;
+        steps.has_unknown = true;
         steps.counts.truncate(mark.open);
         (steps.part, steps.next, steps.cause) = (mark.next, mark.next, Cause::NoMatch);
         if let Some(count) = steps.counts.last_mut() {

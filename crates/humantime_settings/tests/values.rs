@@ -163,7 +163,8 @@ impl<'de, const EMPTY: bool> Deserialize<'de> for Parsed<EMPTY> {
 fn a_borrowed_string_is_rejected_by_its_type(rt: HostRuntime) -> Result<(), Fail> {
     assert_eq!(rt; from_json::<Parsed<false>>(rt.alloc(), "\"70\"")?.0, 70);
     let (alloc, wrong) = (rt.alloc(), "\n\"7x\"");
-    for error in [from_json::<Parsed<false>>(alloc, wrong).err(), from_json::<Parsed<true>>(alloc, wrong).err()] {
+    let list = from_json::<Vec<Parsed<false>>>(alloc, "\n[\"7x\", }").err();
+    for error in [list, from_json::<Parsed<false>>(alloc, wrong).err(), from_json::<Parsed<true>>(alloc, wrong).err()] {
         let error = error.ok_or("read")?;
         assert_eq!(rt; (error.message(), error.line()), ("not a number", Some(2)));
     }
