@@ -120,37 +120,44 @@ pub(crate) fn range_at(
 }
 
 fn message(alloc: Global, rejection: &Rejection, found: Found<'_>) -> Result<String, AllocError> {
-    let (words, value) = (rejection.words.as_str(), found);
+    let words = rejection.words.as_str();
     let (text, len) = match found {
         Found::Text(text) => (text, 0),
         Found::Seq(len) => ("", len),
         _ => ("", 0),
     };
-    let message = match rejection.cause {
-        Cause::Missing => return format!(in alloc; "missing field `{words}`"),
-        Cause::UnknownField => return format!(in alloc; "unknown field `{text}`{words}"),
-        Cause::UnknownVariant => return format!(in alloc; "unknown variant `{text}`{words}"),
-        Cause::Duplicate => return format!(in alloc; "duplicate field `{text}`"),
+    let (what, expected) = match rejection.cause {
+        Cause::Missing => return named(alloc, "missing field", words, ""),
+        Cause::Duplicate => return named(alloc, "duplicate field", text, ""),
+        Cause::UnknownField => return named(alloc, "unknown field", text, words),
+        Cause::UnknownVariant => return named(alloc, "unknown variant", text, words),
         Cause::Length | Cause::Long => return format!(in alloc; "invalid length {len}{words}"),
-        Cause::NoUnit => return format!(in alloc; "invalid type: {value}, expected unit"),
-        Cause::Range => {
-            return format!(in alloc; "invalid value: {value}, expected an integer in range");
-        }
-        Cause::Expected => {
-            let (what, expected) = match (words, found) {
-                ("an integer", _) if found.is_integer() => ("value", "an integer in range"),
-                ("a character", Found::Text(_)) | ("byte array", Found::Seq(_)) => ("value", words),
-                ("f32", Found::Float(_) | Found::Number(_)) => ("value", words),
-                _ => ("type", words),
-            };
-            return format!(in alloc; "invalid {what}: {value}, expected {expected}");
-        }
+        Cause::NoUnit => ("type", "unit"),
+        Cause::Range => ("value", "an integer in range"),
+        Cause::Expected => match (words, found) {
+            ("an integer", _) if found.is_integer() => ("value", "an integer in range"),
+            ("a character", Found::Text(_)) | ("byte array", Found::Seq(_)) => ("value", words),
+            ("f32", Found::Float(_) | Found::Number(_)) => ("value", words),
+            _ => ("type", words),
+        },
+        cause => return String::from_str(alloc, complete_message(cause, words)),
+    };
+    format!(in alloc; "invalid {what}: {found}, expected {expected}")
+}
+
+/// Returns a message about a name.
+fn named(alloc: Global, what: &str, name: &str, more: &str) -> Result<String, AllocError> {
+    format!(in alloc; "{what} `{name}`{more}")
+}
+
+/// Returns the message of a cause that says all.
+fn complete_message(cause: Cause, words: &str) -> &str {
+    match cause {
         Cause::Message => words,
         Cause::NoData => "invalid type: unit variant, expected a variant with data",
         Cause::NoVariant => "wanted exactly 1 element, found 0 elements",
         Cause::TwoVariants => "wanted exactly 1 element, more than 1 element",
         Cause::NoMatch => "data did not match any variant of untagged enum",
-        Cause::Invalid | Cause::Borrowed => "invalid value",
-    };
-    String::from_str(alloc, message)
+        _ => "invalid value",
+    }
 }

@@ -48,17 +48,13 @@ pub fn from_toml<T: DeserializeOwned>(alloc: Global, text: &str) -> Result<T, Se
     ensures position { IfErr result (IsErrorIn text.now) }
     ensures positioned { (message : _) → result ≢ Err (SettingsError.WithoutPosition message) }
 {
-    let read = match toml::from_str::<Traced<T>>(alloc, text) {
-        Ok(Traced(read)) => read,
+    let rejection = match toml::from_str::<Traced<T>>(alloc, text) {
+        Ok(Traced(Ok(value))) => return Ok(value),
+        Ok(Traced(Err(rejection))) => rejection,
         Err(error) => return Err(document_error(alloc, text, &error)?),
     };
-    match read {
-        Ok(value) => Ok(value),
-        Err(rejection) => {
-            let error = located(alloc, text, rejection)?;
-            Err(SettingsError::At(error_at(alloc, text, error)?))
-        }
-    }
+    let error = located(alloc, text, rejection)?;
+    Err(SettingsError::At(error_at(alloc, text, error)?))
 }
 
 /// Writes settings in TOML.

@@ -9,15 +9,31 @@ use std::fmt::InlineText;
 #[derive(Drop)]
 pub(crate) struct Traced<T>(pub Result<T, Rejection>);
 
+/// A value that borrows nothing.
+#[derive(Drop)]
+struct Owned<T>(T);
+
+impl<'de, T: DeserializeOwned> Deserialize<'de> for Owned<T> {
+    fn deserialize<F: Format>(
+        alloc: Global,
+        from: &mut Deserializer<'de, '_, F>,
+    ) -> Result<Owned<T>, F::Error> {
+        Ok(Owned(T::deserialize_owned(alloc, from)?))
+    }
+}
+
 impl<T: DeserializeOwned> DeserializeOwned for Traced<T> {
     fn deserialize_owned<F: Format>(
         alloc: Global,
         from: &mut Deserializer<'_, '_, F>,
     ) -> Result<Traced<T>, F::Error> {
         let mut trace = Trace::new(alloc, from);
-        match trace.read_owned::<T>(alloc) {
-            Ok(value) => Ok(Traced(Ok(value))),
-            Err(stop) => Ok(Traced(Err(trace.rejection_of(stop)?))),
+        match trace.read(alloc) {
+            Ok(Owned(value)) => Ok(Traced(Ok(value))),
+            Err(stop) => match trace.rejection_of(stop)? {
+                Some(rejection) => Ok(Traced(Err(rejection))),
+                None => Err(from.invalid()),
+            },
         }
     }
 }
@@ -46,10 +62,8 @@ impl<'de, T: Deserialize<'de>> Deserialize<'de> for Traced<T> {
         let Err(stop) = trace.read::<T>(alloc) else {
             return Err(error);
         };
-        let rejection = match trace.rejection_of(stop) {
-            Ok(rejection) => rejection,
-            Err(fatal) if from.is_fatal(&fatal) => return Err(fatal),
-            Err(_) => return Err(error),
+        let Some(rejection) = trace.rejection_of(stop)? else {
+            return Err(error);
         };
         from.release(start);
         pass_rest(from);
@@ -153,26 +167,21 @@ impl<'a, 'de, 's, F: Format> Trace<'a, 'de, 's, F> {
         }
     }
 
-    fn read_owned<T: DeserializeOwned>(&mut self, alloc: Global) -> Result<T, Stop> {
-        T::deserialize_owned(alloc, &mut Deserializer::new(&[], self))
-    }
-
     fn read<T: Deserialize<'de>>(&mut self, alloc: Global) -> Result<T, Stop> {
         T::deserialize(alloc, &mut Deserializer::new(&[], self))
     }
 
-    /// Returns why the reading has ended.
-    fn rejection_of(self, stop: Stop) -> Result<Rejection, F::Error> {
+    /// Returns why the reading has ended, if the value is rejected.
+    fn rejection_of(self, stop: Stop) -> Result<Option<Rejection>, F::Error> {
         let Trace { from, fatal, steps } = self;
-        let rejection = match (stop, fatal, steps.variant) {
-            (Stop::Fatal, Some(error), _) => return Err(error),
-            (Stop::OutOfMemory, ..) => return Err(from.no_memory()),
-            (Stop::At(rejection), ..) | (Stop::Variant, _, Some(rejection)) => rejection,
-            _ => return Err(from.invalid()),
-        };
-        match rejection.cause {
-            Cause::Borrowed => Err(from.invalid()),
-            _ => Ok(rejection),
+        match stop {
+            Stop::Fatal => fatal.map_or(Ok(None), Err),
+            Stop::OutOfMemory => Err(from.no_memory()),
+            Stop::At(rejection) => {
+                let is_borrowed = matches!(rejection.cause, Cause::Borrowed);
+                Ok((!is_borrowed).then_some(rejection))
+            }
+            Stop::Variant => Ok(steps.variant),
         }
     }
 
@@ -328,7 +337,7 @@ impl Renamed {
 /// Replaces words by what is said of these names behind one that is unknown.
 fn expect(names: &[Name<'_>], what: &str, words: &mut String) -> Result<(), AllocError> {
     words.clear();
-    let (mut before, next) = match known(names) {
+    let (mut before, next) = match names.iter().filter(|name| !name.skipped).count() {
         0 => {
             words.push_str(", there are no ")?;
             return words.push_str(what);
@@ -346,15 +355,6 @@ fn expect(names: &[Name<'_>], what: &str, words: &mut String) -> Result<(), Allo
         before = next;
     }
     Ok(())
-}
-
-/// Returns how many of these names are known.
-fn known(names: &[Name<'_>]) -> usize {
-    let mut count = 0_usize;
-    for name in names {
-        count = count.saturating_add(!name.skipped as usize);
-    }
-    count
 }
 
 impl<F: Format> Format for Trace<'_, '_, '_, F> {
