@@ -8,7 +8,7 @@ use crate::error::{SettingsError, error_at};
 use crate::error_range::error_from;
 use crate::rejection::{Cause, Found, Part, Rejection, range_at};
 use crate::toml_positions::{Step, entry_of, wrong_part};
-use crate::trace::Traced;
+use crate::trace::{Owned, Traced};
 use humantime_std::located::Located;
 use serde::{DeserializeOwned, Serialize};
 use std::alloc::{AllocError, Global};
@@ -48,8 +48,8 @@ pub fn from_toml<T: DeserializeOwned>(alloc: Global, text: &str) -> Result<T, Se
     ensures position { IfErr result (IsErrorIn text.now) }
     ensures positioned { (message : _) → result ≢ Err (SettingsError.WithoutPosition message) }
 {
-    let rejection = match toml::from_str::<Traced<T>>(alloc, text) {
-        Ok(Traced(Ok(value))) => return Ok(value),
+    let rejection = match toml::from_str::<Traced<Owned<T>>>(alloc, text) {
+        Ok(Traced(Ok(Owned(value)))) => return Ok(value),
         Ok(Traced(Err(rejection))) => rejection,
         Err(error) => return Err(document_error(alloc, text, &error)?),
     };

@@ -1,5 +1,8 @@
 //! A format that passes each step on to another one and counts the steps: it tells where and why the reading of a value fails.
 
+ghost use Rattle.std.specs.Prelude.{◌≡◌};
+ghost use Rattle.humantime_settings.specs.declared.trace.Stop.TheVariants.{OutOfMemory};
+
 use crate::rejection::{Cause, Part, Rejection};
 use serde::{Case, Deserialize, DeserializeOwned, Deserializer, Format, Kind, Name, NameKind};
 use std::alloc::{AllocError, Global};
@@ -11,7 +14,7 @@ pub(crate) struct Traced<T>(pub Result<T, Rejection>);
 
 /// A value that borrows nothing.
 #[derive(Drop)]
-struct Owned<T>(T);
+pub(crate) struct Owned<T>(pub T);
 
 impl<'de, T: DeserializeOwned> Deserialize<'de> for Owned<T> {
     fn deserialize<F: Format>(
@@ -22,19 +25,12 @@ impl<'de, T: DeserializeOwned> Deserialize<'de> for Owned<T> {
     }
 }
 
-impl<T: DeserializeOwned> DeserializeOwned for Traced<T> {
+impl<T: DeserializeOwned> DeserializeOwned for Traced<Owned<T>> {
     fn deserialize_owned<F: Format>(
         alloc: Global,
         from: &mut Deserializer<'_, '_, F>,
-    ) -> Result<Traced<T>, F::Error> {
-        let mut trace = Trace::new(alloc, from);
-        match trace.read(alloc) {
-            Ok(Owned(value)) => Ok(Traced(Ok(value))),
-            Err(stop) => match trace.rejection_of(stop)? {
-                Some(rejection) => Ok(Traced(Err(rejection))),
-                None => Err(from.invalid()),
-            },
-        }
+    ) -> Result<Traced<Owned<T>>, F::Error> {
+        Traced::deserialize(alloc, from)
     }
 }
 
@@ -94,6 +90,8 @@ enum Stop {
 }
 
 impl From<AllocError> for Stop {
+    ghost from_gives = { λ _ stop. stop ≡ OutOfMemory };
+
     fn from(_refused: AllocError) -> Stop {
         Stop::OutOfMemory
     }
