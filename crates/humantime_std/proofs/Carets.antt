@@ -1,5 +1,6 @@
 -- What stands under a line up to a part, piece by piece.
 use Rattle.humantime.proofs.Prelude.{arith, ◌≡◌, ◌==◌, ℕ, zero, suc, ◌-◌, ◌<◌, ◌≤◌, true, not, List, [], ◌∷◌, ◌++◌, length, drop, get_or, map, refl, sym, ap, subst, append_assoc, replicate, has_written_styled_append, has_written_styled_of_eq, get_or-drop, length-drop, slice_split_first, slice_split_none, length-slice_split, fails_before_first, suffix_len_is, NoCharPasses-char, HasWritten, HasWrittenStyled, IsDefaultSpec, IsPlainFormatter, Formatter, position_or_len, before_first, after_last, after_first, join_with_byte, repeat, slice_split, max, NoCharPasses}
+use Rattle.std.specs.Prelude.{count_by}
 use Rattle.humantime_std.specs.Carets.{columns, blanks, caret_line, is_line_feed, is_tab}
 
 -- What is written whatever the options are, is written without options.
@@ -62,3 +63,14 @@ pub only_line_is : (text : List ℕ) → NoCharPasses (λ c. c == 10) text → t
 only_line_is text none = last_line_is text 0 (omega arith) none (λ none. absurd (omega arith))
 
 pub ruleset last_lines = (last_line_is, only_line_is)
+
+-- A text has line feeds if the first one is in it.
+pub has_feeds : (text : List ℕ) → position_or_len is_line_feed text < length text → 0 < count_by is_line_feed text
+has_feeds text some = omega (arith, rw (slice_split_first is_line_feed text 0 some) at (length-slice_split is_line_feed text), length-slice_split is_line_feed (after_first is_line_feed text))
+
+pub has_no_feed : (text : List ℕ) → position_or_len is_line_feed text ≡ length text → count_by is_line_feed text ≡ 0
+has_no_feed text none =
+    let whole = slice_split_none is_line_feed text (λ k d few. fails_before_first is_line_feed text k d (omega (arith, none))) in
+    omega (arith, rw whole at (length-slice_split is_line_feed text))
+
+pub ruleset first_feeds = (has_feeds, has_no_feed)

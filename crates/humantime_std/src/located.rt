@@ -14,7 +14,7 @@ ghost use Rattle.humantime_std.specs.Located.{BeginsSpans, Fit, IsFaultRange, Is
 mod carets;
 
 pub use carets::{Report, Underline};
-use carets::{first_line, last_line, line_feeds};
+use carets::{first_line, has_line_feed, last_line, line_feeds};
 use humantime::{
     Date, DurationError, StdDuration, SystemTime, TimestampError, Turns, day_number, spans,
 };
@@ -92,7 +92,7 @@ impl<E> Located<E> {
         let Underline { before, part } = self.underline(text);
         Report {
             error: self.error,
-            number: (line_feeds(text) > 0).then_some(line_feeds(before) + 1),
+            number: has_line_feed(text).then_some(line_feeds(before) + 1),
             underline: Underline {
                 before: last_line(before),
                 part: first_line(part),
