@@ -192,6 +192,9 @@ fn next_item(rest: &str) -> &str {
 
 /// Returns the document behind the value at the front, where `toml` finds more than a value.
 fn after_value(alloc: Global, value: &str) -> Result<&str, AllocError> {
+    if starts_string(value) {
+        return Ok(name_at(alloc, value)?.1);
+    }
     let end = error_start(Value::from_str(alloc, value))?;
     Ok(tail(value, end.unwrap_or(value.len())))
 }

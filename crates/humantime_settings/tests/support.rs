@@ -64,9 +64,7 @@ pub(crate) fn message_at(rt: &(impl Abort + AllocGlobal), read: Read, document: 
     let (front, rest) = document.split_once('^').ok_or("no mark")?;
     let (marked, back) = rest.split_once('^').unwrap_or(("", rest));
     let read_as = read(rt.alloc(), &format!(in rt.alloc(); "{front}{marked}{back}")?);
-    let Some(SettingsError::At(error)) = read_as else {
-        panic!(rt; "{read_as:?} {document}");
-    };
+    let Some(SettingsError::At(error)) = read_as else { panic!(rt; "{read_as:?} {document}") };
     let line = front.matches('\n').count() + 1;
     let column = front.rsplit('\n').next().unwrap_or("").chars().filter(|c| *c != '\u{feff}').count() + 1;
     // A mark ends with its line.

@@ -100,10 +100,14 @@ fn write_blanks<W: fmt::Write>(f: &mut fmt::Formatter<W>, before: &str) -> fmt::
 pub(crate) fn line_feeds(text: &str) -> usize
     ensures { result ≡ count_by is_line_feed text.now }
 {
+    // A string of one line is passed in a tenth of the time.
+    if !has_line_feed(text) {
+        return 0;
+    }
     text.bytes().filter(|byte| *byte == b'\n').count()
 }
 
-/// Returns `true` if a string has a line feed. It takes a tenth of the time of [`line_feeds`].
+/// Returns `true` if a string has a line feed.
 #[tactic(auto, using(crate::proofs::Carets::first_feeds))]
 pub(crate) fn has_line_feed(text: &str) -> bool
     ensures { result ≡ nat_lt 0 (count_by is_line_feed text.now) }
