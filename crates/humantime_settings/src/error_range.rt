@@ -2,6 +2,7 @@
 
 use crate::raw_strings::raw_range;
 use humantime_std::located::{Located, parse_duration, parse_rfc3339_weak};
+use serde_trace::{Found, Rejection};
 use std::alloc::{AllocError, Global};
 use std::fmt::{Display, InlineText};
 
@@ -17,8 +18,25 @@ pub(crate) fn error_from(start: usize, message: String) -> Located<String> {
     }
 }
 
+/// Returns the error of what a document has at this offset.
+pub(crate) fn range_at(
+    alloc: Global,
+    document: &str,
+    at: usize,
+    rejection: &Rejection,
+    found: Found<'_>,
+) -> Result<Located<String>, AllocError> {
+    let message = rejection.message(alloc, found)?;
+    if let Found::Text(text) = found {
+        if let Some(error) = error_in(alloc, &message, document, at, text)? {
+            return Ok(error);
+        }
+    }
+    Ok(error_from(at, message))
+}
+
 /// Returns the error of the string literal at an offset of a document, if `said` is its message.
-pub(crate) fn error_in(
+fn error_in(
     alloc: Global,
     said: &str,
     document: &str,

@@ -1,7 +1,7 @@
 //! What a JSON document has where a path leads.
 
-use crate::rejection::{Cause, Found, Part, Rejection};
 use json::{MAX_DEPTH, Reader, Scratch, Token};
+use serde_trace::{Cause, Found, Part, Rejection};
 use std::alloc::AllocError;
 
 /// Returns the offset of what is rejected, and what is there.

@@ -8,14 +8,13 @@ ghost use Rattle.serde_json.specs.Sent.{AreTokensOf};
 ghost use Rattle.humantime_settings.specs.Positions.{IsErrorIn};
 
 use crate::error::{SettingsError, error_at};
-use crate::error_range::error_from;
+use crate::error_range::{error_from, range_at};
 use crate::json_positions::found_at;
 use crate::json_syntax::syntax_error;
-use crate::rejection::{Rejection, range_at};
-use crate::trace::Traced;
 use humantime_std::located::Located;
 use json::Scratch;
 use serde::{Deserialize, Serialize};
+use serde_trace::{Rejection, Traced};
 use std::alloc::{AllocError, Global};
 
 /// Reads settings in JSON. Until it returns, it keeps the tokens of the document in memory.

@@ -1,7 +1,7 @@
 //! Where a string stops being JSON, and what is expected there.
 
-use crate::rejection::Part;
 use json::{Reader, Scratch, Token};
+use serde_trace::Part;
 use std::alloc::{AllocError, Global};
 
 /// Returns the offset at which a string is not JSON, and why, or `None` if it is JSON with at most 127 objects and arrays in one another.

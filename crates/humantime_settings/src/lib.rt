@@ -49,10 +49,8 @@ mod json_positions;
 mod json_settings;
 mod json_syntax;
 mod raw_strings;
-mod rejection;
 mod toml_positions;
 mod toml_settings;
-mod trace;
 
 pub use error::{ErrorAt, SettingsError};
 pub use fields::{AsText, Field, deserialize, serialize};

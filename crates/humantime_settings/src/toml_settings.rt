@@ -5,12 +5,11 @@ ghost use Rattle.toml.specs.Parse.{parse_document};
 ghost use Rattle.humantime_settings.specs.Positions.{IsErrorIn};
 
 use crate::error::{SettingsError, error_at};
-use crate::error_range::error_from;
-use crate::rejection::{Cause, Found, Part, Rejection, range_at};
+use crate::error_range::{error_from, range_at};
 use crate::toml_positions::{Step, entry_of, wrong_part};
-use crate::trace::{Owned, Traced};
 use humantime_std::located::Located;
 use serde::{DeserializeOwned, Serialize};
+use serde_trace::{Cause, Found, Owned, Part, Rejection, Traced};
 use std::alloc::{AllocError, Global};
 use toml::Value;
 use toml_parser::ErrorKind;

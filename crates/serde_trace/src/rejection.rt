@@ -1,13 +1,11 @@
 //! Where and why a document does not contain a value.
 
-use crate::error_range::{error_from, error_in};
-use humantime_std::located::Located;
 use std::alloc::{AllocError, Global};
 use std::fmt::{self, Display};
 
 /// An error of a value.
 #[derive(Drop)]
-pub(crate) struct Rejection {
+pub struct Rejection {
     /// For each map and sequence around it, the number of the entry or the item, from 0.
     pub path: Vec<usize>,
     pub part: Part,
@@ -15,9 +13,38 @@ pub(crate) struct Rejection {
     pub words: String,
 }
 
+impl Rejection {
+    /// Returns what `serde` says of it, where the document has this.
+    pub fn message(&self, alloc: Global, found: Found<'_>) -> Result<String, AllocError> {
+        let words = self.words.as_str();
+        let (text, len) = match found {
+            Found::Text(text) => (text, 0),
+            Found::Seq(len) => ("", len),
+            _ => ("", 0),
+        };
+        let (what, expected) = match self.cause {
+            Cause::Missing => return named(alloc, "missing field", words, ""),
+            Cause::Duplicate => return named(alloc, "duplicate field", text, ""),
+            Cause::UnknownField => return named(alloc, "unknown field", text, words),
+            Cause::UnknownVariant => return named(alloc, "unknown variant", text, words),
+            Cause::Length | Cause::Long => return format!(in alloc; "invalid length {len}{words}"),
+            Cause::NoUnit => ("type", "unit"),
+            Cause::Range => ("value", "an integer in range"),
+            Cause::Expected => match (words, found) {
+                ("an integer", _) if found.is_integer() => ("value", "an integer in range"),
+                ("a character", Found::Text(_)) | ("byte array", Found::Seq(_)) => ("value", words),
+                ("f32", Found::Float(_) | Found::Number(_)) => ("value", words),
+                _ => ("type", words),
+            },
+            cause => return String::from_str(alloc, complete_message(cause, words)),
+        };
+        format!(in alloc; "invalid {what}: {found}, expected {expected}")
+    }
+}
+
 /// What of an entry or an item an error is about.
 #[derive(Clone, Copy, PartialEq, Eq, Drop)]
-pub(crate) enum Part {
+pub enum Part {
     Key,
     Value,
     /// The end of the value, where something is missing.
@@ -26,7 +53,7 @@ pub(crate) enum Part {
 
 /// Why a value is rejected, and what its words are.
 #[derive(Clone, Copy, Drop)]
-pub(crate) enum Cause {
+pub enum Cause {
     /// The message.
     Message,
     /// What is expected in place of the value.
@@ -59,7 +86,7 @@ pub(crate) enum Cause {
 
 /// What a document has where an error is.
 #[derive(Clone, Copy)]
-pub(crate) enum Found<'a> {
+pub enum Found<'a> {
     /// A string or a key.
     Text(&'a str),
     Integer(i64),
@@ -100,49 +127,6 @@ impl Display for Found<'_> {
             Found::Map => f.write_str("map"),
         }
     }
-}
-
-/// Returns the error of what a document has at this offset.
-pub(crate) fn range_at(
-    alloc: Global,
-    document: &str,
-    at: usize,
-    rejection: &Rejection,
-    found: Found<'_>,
-) -> Result<Located<String>, AllocError> {
-    let message = message(alloc, rejection, found)?;
-    if let Found::Text(text) = found {
-        if let Some(error) = error_in(alloc, &message, document, at, text)? {
-            return Ok(error);
-        }
-    }
-    Ok(error_from(at, message))
-}
-
-fn message(alloc: Global, rejection: &Rejection, found: Found<'_>) -> Result<String, AllocError> {
-    let words = rejection.words.as_str();
-    let (text, len) = match found {
-        Found::Text(text) => (text, 0),
-        Found::Seq(len) => ("", len),
-        _ => ("", 0),
-    };
-    let (what, expected) = match rejection.cause {
-        Cause::Missing => return named(alloc, "missing field", words, ""),
-        Cause::Duplicate => return named(alloc, "duplicate field", text, ""),
-        Cause::UnknownField => return named(alloc, "unknown field", text, words),
-        Cause::UnknownVariant => return named(alloc, "unknown variant", text, words),
-        Cause::Length | Cause::Long => return format!(in alloc; "invalid length {len}{words}"),
-        Cause::NoUnit => ("type", "unit"),
-        Cause::Range => ("value", "an integer in range"),
-        Cause::Expected => match (words, found) {
-            ("an integer", _) if found.is_integer() => ("value", "an integer in range"),
-            ("a character", Found::Text(_)) | ("byte array", Found::Seq(_)) => ("value", words),
-            ("f32", Found::Float(_) | Found::Number(_)) => ("value", words),
-            _ => ("type", words),
-        },
-        cause => return String::from_str(alloc, complete_message(cause, words)),
-    };
-    format!(in alloc; "invalid {what}: {found}, expected {expected}")
 }
 
 /// Returns a message about a name.

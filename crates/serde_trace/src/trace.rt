@@ -1,7 +1,7 @@
 //! A format that passes each step on to another one and counts the steps: it tells where and why the reading of a value fails.
 
 ghost use Rattle.std.specs.Prelude.{◌≡◌};
-ghost use Rattle.humantime_settings.specs.declared.trace.Stop.TheVariants.{OutOfMemory};
+ghost use Rattle.serde_trace.specs.declared.trace.Stop.TheVariants.{OutOfMemory};
 
 use crate::rejection::{Cause, Part, Rejection};
 use serde::{Case, Deserialize, DeserializeOwned, Deserializer, Format, Kind, Name, NameKind};
@@ -10,11 +10,11 @@ use std::fmt::InlineText;
 
 /// A value, or where and why a document does not contain it.
 #[derive(Drop)]
-pub(crate) struct Traced<T>(pub Result<T, Rejection>);
+pub struct Traced<T>(pub Result<T, Rejection>);
 
 /// A value that borrows nothing.
 #[derive(Drop)]
-pub(crate) struct Owned<T>(pub T);
+pub struct Owned<T>(pub T);
 
 impl<'de, T: DeserializeOwned> Deserialize<'de> for Owned<T> {
     fn deserialize<F: Format>(
