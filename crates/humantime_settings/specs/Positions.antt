@@ -1,5 +1,8 @@
--- The position of an error in a text. A text is its bytes.
-use Rattle.std.specs.Prelude.{◌≡◌, ◌==◌, ◌+◌, ◌++◌, ⊤, ℕ, List, Option, None, Some, chars, codes, count_by, drop, not, string_bytes, take}
+-- The position of an error in a text, and what is printed. A text is its bytes, and a character its number.
+use Rattle.std.specs.Prelude.{◌≡◌, ◌==◌, ◌&&◌, ◌||◌, ◌+◌, ◌++◌, ⊤, ℕ, List, Bool, Option, false, None, Some, chars, codes, count_by, drop, flat_map, if◌then◌else◌, not, string_bytes, take}
+use Rattle.std.specs.Char.{encode_utf8, is_control}
+use Rattle.std.specs.Fmt.{digits}
+use Rattle.std.specs.Int.{is_in_range}
 use Rattle.std.specs.List.{after_last, before_first}
 use Rattle.std.specs.Str.{IsCharBoundary}
 use Rattle.humantime_std.specs.Carets.{is_line_feed}
@@ -51,3 +54,21 @@ abbrev pub message_of : SettingsError → List ℕ
 message_of OutOfMemory = codes "out of memory"
 message_of (At error) = string_bytes error.message
 message_of (WithoutPosition message) = string_bytes message
+
+-- Tests whether a character controls a terminal, except for a tab, or the direction of its text, or ends a line or a paragraph.
+abbrev pub is_hidden : ℕ → Bool
+is_hidden c =
+    (is_control c && not (c == 9)) || (c == 0x61C) || is_in_range 0x200E 0x200F c || is_in_range 0x2028 0x202E c || is_in_range 0x2066 0x2069 c
+
+-- Returns a character, or in place of one that is hidden its escape.
+abbrev pub shown : ℕ → List ℕ
+shown c = if is_hidden c then codes "\\u{" ++ (digits 16 false c ++ codes "}") else encode_utf8 c
+
+-- Returns a text with these escapes.
+abbrev pub escaped : List ℕ → List ℕ
+escaped text = flat_map shown (chars text)
+
+-- What is printed of an error without a position.
+abbrev pub printed : SettingsError → Option (List ℕ)
+printed (At error) = None
+printed error = Some (escaped (message_of error))

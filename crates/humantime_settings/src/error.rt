@@ -1,7 +1,8 @@
 //! The error of settings, and its position in a string.
 
-ghost use Rattle.std.specs.Prelude.{◌≡◌, ◌+◌, IfOk, string_bytes};
-ghost use Rattle.humantime_settings.specs.Positions.{IsPositionIn, column_of, columns, line_of, message_of};
+ghost use Rattle.std.specs.Prelude.{◌≡◌, ◌+◌, IfOk, Some, string_bytes};
+ghost use Rattle.std.specs.Fmt.{WritesOnOk};
+ghost use Rattle.humantime_settings.specs.Positions.{IsPositionIn, column_of, columns, escaped, is_hidden, line_of, message_of, printed, shown};
 ghost use Rattle.humantime_settings.specs.declared.error.SettingsError.TheVariants.{OutOfMemory};
 
 use humantime_std::located::{Located, Underline};
@@ -194,6 +195,8 @@ const LONG_ESCAPED: usize = 3000;
 /// assert!(rt; shown.ends_with("\n  \"1s\", \"5µs 7moons\"\n              ^^^^^"));
 /// ```
 impl fmt::Display for SettingsError {
+    ghost output = { printed };
+
     fn fmt<W: fmt::Write>(&self, f: &mut fmt::Formatter<W>) -> fmt::Result {
         let message = Escaped(self.message());
         let SettingsError::At(error) = self else {
@@ -248,21 +251,32 @@ fn start_of(text: &str, most: usize) -> (&str, &str) {
 struct Escaped<'a>(&'a str);
 
 impl fmt::Display for Escaped<'_> {
+    ghost output = { λ e. Some (escaped e.0.now) };
+
     fn fmt<W: fmt::Write>(&self, f: &mut fmt::Formatter<W>) -> fmt::Result {
         for c in self.0.chars() {
-            if is_hidden(c) {
-                write!(f, "\\u{{{:x}}}", c as u32)?;
-            } else {
-                f.write_char(c)?;
-            }
+            write_shown(f, c)?;
         }
         Ok(())
     }
 }
 
+/// Writes a character or its escape.
+fn write_shown<W: fmt::Write>(f: &mut fmt::Formatter<W>, c: char) -> fmt::Result
+    ensures { WritesOnOk W.write_str_gives f.old result (shown c) f.new }
+{
+    if is_hidden(c) {
+        write!(f, "\\u{{{:x}}}", c as u32)
+    } else {
+        f.write_char(c)
+    }
+}
+
 /// Returns `true` for a character that controls a terminal, except for a tab, or the direction of its text, and for the ends of a line and of
 /// a paragraph, U+2028 and U+2029.
-fn is_hidden(c: char) -> bool {
+fn is_hidden(c: char) -> bool
+    ensures { result ≡ is_hidden c }
+{
     match c {
         '\t' => false,
         '\u{61c}' | '\u{200e}' | '\u{200f}' | '\u{2028}'..='\u{202e}' | '\u{2066}'..='\u{2069}' =>

@@ -315,20 +315,14 @@ impl Steps {
         }
         for name in names {
             if !name.skipped && !matches!(name.case, Case::AsIs) {
-                let renamed = Renamed::new(self.alloc, self.counts.len(), name)?;
-                self.renamed.push(renamed)?;
+                let mut key = String::new(self.alloc);
+                name.case.append(name.kind, name.name, &mut key)?;
+                let name = String::from_str(self.alloc, name.name)?;
+                let open = self.counts.len();
+                self.renamed.push(Renamed { open, name, key })?;
             }
         }
         Ok(())
-    }
-}
-
-impl Renamed {
-    fn new(alloc: Global, open: usize, name: &Name<'_>) -> Result<Renamed, AllocError> {
-        let mut key = String::new(alloc);
-        name.case.append(name.kind, name.name, &mut key)?;
-        let name = String::from_str(alloc, name.name)?;
-        Ok(Renamed { open, name, key })
     }
 }
 
