@@ -183,25 +183,6 @@ impl<'a, 'de, 's, F: Format> Trace<'a, 'de, 's, F> {
         }
     }
 
-    /// Returns what a step has read, or that something else is expected.
-    #[inline(always)]
-    fn told<V>(&mut self, read: Result<V, F::Error>, expected: &str) -> Result<V, Stop> {
-        self.steps.read();
-        match read {
-            Ok(value) => Ok(value),
-            Err(error) => Err(self.failed(error, self.steps.part, Cause::Expected, expected)),
-        }
-    }
-
-    /// Returns what a step has seen that reads no value. In TOML, a table without the key of a variant is an error of such a step.
-    #[inline(always)]
-    fn seen<V>(&mut self, read: Result<V, F::Error>) -> Result<V, Stop> {
-        match read {
-            Ok(value) => Ok(value),
-            Err(error) => Err(self.failed(error, Part::End, Cause::NoVariant, "")),
-        }
-    }
-
     #[inline(never)]
     fn failed(&mut self, error: F::Error, part: Part, cause: Cause, words: &str) -> Stop {
         if self.from.is_fatal(&error) {
@@ -349,58 +330,71 @@ fn expect(names: &[Name<'_>], what: &str, words: &mut String) -> Result<(), Allo
     Ok(())
 }
 
+/// Returns what a step of the other format has read, or that something else is expected.
+macro_rules! told {
+    ($self:ident.$step:ident($($argument:expr)?), $expected:expr) => {{
+        let read = $self.from.$step($($argument)?);
+        $self.steps.read();
+        match read {
+            Ok(value) => Ok(value),
+            Err(error) => Err($self.failed(error, $self.steps.part, Cause::Expected, $expected)),
+        }
+    }};
+}
+
+/// Returns what a step has seen that reads no value. In TOML, a table without the key of a variant is an error of such a step.
+macro_rules! seen {
+    ($self:ident.$step:ident($($argument:expr)?)) => {
+        match $self.from.$step($($argument)?) {
+            Ok(value) => Ok(value),
+            Err(error) => Err($self.failed(error, Part::End, Cause::NoVariant, "")),
+        }
+    };
+}
+
 impl<F: Format> Format for Trace<'_, '_, '_, F> {
     type Error = Stop;
 
     type Mark = Back<F::Mark>;
 
     fn bool(&mut self, _input: &[u8]) -> Result<bool, Stop> {
-        let read = self.from.bool();
-        self.told(read, "a boolean")
+        told!(self.bool(), "a boolean")
     }
 
     fn i64(&mut self, _input: &[u8]) -> Result<i64, Stop> {
-        let read = self.from.i64();
-        let read = self.told(read, "an integer");
+        let read = told!(self.i64(), "an integer");
         self.steps.cause = Cause::Range;
         read
     }
 
     fn u64(&mut self, _input: &[u8]) -> Result<u64, Stop> {
-        let read = self.from.u64();
-        let read = self.told(read, "an integer");
+        let read = told!(self.u64(), "an integer");
         self.steps.cause = Cause::Range;
         read
     }
 
     fn i128(&mut self, _input: &[u8]) -> Result<i128, Stop> {
-        let read = self.from.i128();
-        self.told(read, "an integer")
+        told!(self.i128(), "an integer")
     }
 
     fn u128(&mut self, _input: &[u8]) -> Result<u128, Stop> {
-        let read = self.from.u128();
-        self.told(read, "an integer")
+        told!(self.u128(), "an integer")
     }
 
     fn f32(&mut self, _input: &[u8]) -> Result<f32, Stop> {
-        let read = self.from.f32();
-        self.told(read, "f32")
+        told!(self.f32(), "f32")
     }
 
     fn f64(&mut self, _input: &[u8]) -> Result<f64, Stop> {
-        let read = self.from.f64();
-        self.told(read, "f64")
+        told!(self.f64(), "f64")
     }
 
     fn char(&mut self, _input: &[u8]) -> Result<char, Stop> {
-        let read = self.from.char();
-        self.told(read, "a character")
+        told!(self.char(), "a character")
     }
 
     fn plain_str(&mut self, _input: &[u8]) -> Result<(usize, usize), Stop> {
-        let read = self.from.borrowed_str();
-        self.told(read, "a borrowed string")?;
+        told!(self.borrowed_str(), "a borrowed string")?;
         self.steps.cause = Cause::Borrowed;
         Ok((0, 0))
     }
@@ -410,41 +404,34 @@ impl<F: Format> Format for Trace<'_, '_, '_, F> {
     }
 
     fn string(&mut self, alloc: Global, _input: &[u8]) -> Result<String, Stop> {
-        let read = self.from.string(alloc);
-        self.told(read, "a string")
+        told!(self.string(alloc), "a string")
     }
 
     fn byte_buf(&mut self, alloc: Global, _input: &[u8]) -> Result<Vec<u8>, Stop> {
-        let read = self.from.byte_buf(alloc);
-        self.told(read, "byte array")
+        told!(self.byte_buf(alloc), "byte array")
     }
 
     fn peek(&mut self, _input: &[u8]) -> Result<Kind, Stop> {
-        let kind = self.from.peek();
-        self.seen(kind)
+        seen!(self.peek())
     }
 
     fn take_unit(&mut self, _input: &[u8]) -> Result<bool, Stop> {
-        let taken = self.from.take_unit();
-        let is_taken = self.seen(taken)?;
+        let is_taken = seen!(self.take_unit())?;
         Ok(self.steps.took(is_taken))
     }
 
     fn take_none(&mut self, _input: &[u8]) -> Result<bool, Stop> {
-        let taken = self.from.take_none();
-        let is_taken = self.seen(taken)?;
+        let is_taken = seen!(self.take_none())?;
         Ok(self.steps.took(is_taken))
     }
 
     fn begin_seq(&mut self, _input: &[u8]) -> Result<(), Stop> {
-        let begun = self.from.begin_seq();
-        self.told(begun, "a sequence")?;
+        told!(self.begin_seq(), "a sequence")?;
         Ok(self.steps.open()?)
     }
 
     fn next_item(&mut self, _input: &[u8]) -> Result<bool, Stop> {
-        let is_more = self.from.next_item();
-        let is_more = self.seen(is_more)?;
+        let is_more = seen!(self.next_item())?;
         self.steps.pass(is_more, Part::Value, Part::Value);
         if is_more {
             self.steps.cause = Cause::Long;
@@ -461,21 +448,18 @@ impl<F: Format> Format for Trace<'_, '_, '_, F> {
     }
 
     fn begin_struct(&mut self, _input: &[u8]) -> Result<bool, Stop> {
-        let begun = self.from.begin_struct();
-        let is_seq = self.told(begun, "a map")?;
+        let is_seq = told!(self.begin_struct(), "a map")?;
         self.steps.open()?;
         Ok(is_seq)
     }
 
     fn begin_map(&mut self, _input: &[u8]) -> Result<(), Stop> {
-        let begun = self.from.begin_map();
-        self.told(begun, "a map")?;
+        told!(self.begin_map(), "a map")?;
         Ok(self.steps.open()?)
     }
 
     fn next_key(&mut self, _input: &[u8], names: &[Name<'_>]) -> Result<Option<usize>, Stop> {
-        let found = self.from.next_key(names);
-        let found = self.seen(found)?;
+        let found = seen!(self.next_key(names))?;
         self.steps.pass(found.is_some(), Part::Key, Part::Value);
         match found {
             Some(at) if at < names.len() => {}
@@ -485,15 +469,13 @@ impl<F: Format> Format for Trace<'_, '_, '_, F> {
     }
 
     fn next_entry(&mut self, _input: &[u8]) -> Result<bool, Stop> {
-        let is_more = self.from.next_entry();
-        let is_more = self.seen(is_more)?;
+        let is_more = seen!(self.next_entry())?;
         self.steps.pass(is_more, Part::Key, Part::Key);
         Ok(is_more)
     }
 
     fn variant(&mut self, _input: &[u8], names: &[Name<'_>]) -> Result<usize, Stop> {
-        let found = self.from.variant(names);
-        let found = self.told(found, "variant identifier")?;
+        let found = told!(self.variant(names), "variant identifier")?;
         self.steps.cause = Cause::NoData;
         if found >= names.len() {
             self.steps.keep_variant(names)?;
@@ -502,8 +484,7 @@ impl<F: Format> Format for Trace<'_, '_, '_, F> {
     }
 
     fn skip(&mut self, _input: &[u8]) -> Result<(), Stop> {
-        let skipped = self.from.skip();
-        self.told(skipped, "a value")
+        told!(self.skip(), "a value")
     }
 
     fn mark(&mut self) -> Back<F::Mark> {
