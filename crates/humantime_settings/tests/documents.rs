@@ -3,7 +3,7 @@
 use crate::drawn::Table;
 use crate::support::{Row, Wait, assert_errors, filled, message_at, reader, reads};
 use humantime::{Duration, StdDuration, SystemTime, Timestamp};
-use humantime_settings::AsText;
+use humantime_settings::{AsText, SettingsError};
 use serde::Deserialize;
 use std::collections::BTreeMap;
 use std::test::Fail;
@@ -264,6 +264,9 @@ fn errors_are_printed(rt: HostRuntime) -> Result<(), Fail> {
         let error = reader(reads!(Jobs), &document)(alloc, &document).ok_or("read")?;
         assert_eq!(rt; error.to_string(alloc)?, filled(&rt, shown, NAMES)?);
     }
+    let whole = SettingsError::WithoutPosition(String::from_str(alloc, "a\tb\u{1b}\n")?);
+    assert_eq!(rt; whole.to_string(alloc)?.as_str(), "a\tb\\u{1b}\\u{a}");
+    assert_eq!(rt; SettingsError::OutOfMemory.to_string(alloc)?.as_str(), "out of memory");
     Ok(())
 }
 
@@ -274,6 +277,18 @@ fn documents_end_in_a_string(rt: HostRuntime) -> Result<(), Fail> {
         for (end, _) in string.char_indices().skip(1) {
             let text = format!(in rt.alloc(); "{before}{}{after}", &string[..end])?;
             assert_eq!(rt; message_at(&rt, reader(reads!(Jobs), &text), &text)?.as_str(), "invalid string");
+        }
+    }
+    Ok(())
+}
+
+#[test]
+fn each_byte_alone(rt: HostRuntime) -> Result<(), Fail> {
+    for byte in 0..0x80_u8 {
+        let text = format!(in rt.alloc(); "{}", char::from(byte))?;
+        for read in reads!(Jobs) {
+            let error = read(rt.alloc(), &text);
+            assert!(rt; matches!(&error, Some(SettingsError::At(error)) if error.offset <= 1), "{error:?} {text:?}");
         }
     }
     Ok(())
