@@ -84,7 +84,7 @@ enum Stop {
     /// For another reason than the value: the trace has the error.
     Fatal,
     OutOfMemory,
-    At(Rejection),
+    At(Box<Rejection>),
     /// The last variant is unknown.
     Variant,
 }
@@ -176,6 +176,7 @@ impl<'a, 'de, 's, F: Format> Trace<'a, 'de, 's, F> {
             Stop::Fatal => fatal.map_or(Ok(None), Err),
             Stop::OutOfMemory => Err(from.no_memory()),
             Stop::At(rejection) => {
+                let rejection = Box::into_inner(rejection);
                 let is_borrowed = matches!(rejection.cause, Cause::Borrowed);
                 Ok((!is_borrowed).then_some(rejection))
             }
@@ -217,7 +218,7 @@ impl Steps {
     /// Returns an error at the current position.
     fn stop(&self, part: Part, cause: Cause, words: &str) -> Stop {
         match self.rejection(part, cause, words) {
-            Ok(rejection) => Stop::At(rejection),
+            Ok(rejection) => Box::new(self.alloc, rejection).map_or(Stop::OutOfMemory, Stop::At),
             Err(_) => Stop::OutOfMemory,
         }
     }
@@ -458,6 +459,8 @@ impl<F: Format> Format for Trace<'_, '_, '_, F> {
         Ok(self.steps.open()?)
     }
 
+    // The names that a derive passes are constants here: the other format finds a key faster.
+    #[inline(always)]
     fn next_key(&mut self, _input: &[u8], names: &[Name<'_>]) -> Result<Option<usize>, Stop> {
         let found = seen!(self.next_key(names))?;
         self.steps.pass(found.is_some(), Part::Key, Part::Value);
