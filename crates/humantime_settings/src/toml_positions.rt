@@ -94,11 +94,11 @@ impl<'a> Walk<'a> {
             return Ok(None);
         };
         for _ in 0..self.path.len() {
-            let ([Step::Item(number), behind @ ..], b'[') = (left, first(found.1)) else {
+            let ([Step::Item(number), later @ ..], b'[') = (left, first(found.1)) else {
                 break;
             };
             let item = item_of(self.alloc, found.1, *number)?;
-            (found, left) = ((item, item), behind);
+            (found, left) = ((item, item), later);
         }
         // Steps can be left: a date-time is an object in JSON.
         if left.is_empty() || first(found.1) != b'{' {
@@ -116,10 +116,10 @@ impl<'a> Walk<'a> {
     ) -> Result<(StepsLeft<'a>, &'a str, &'a str), AllocError> {
         let (mut part, mut rest) = (key, key);
         for _ in 0..key.len() {
-            let (name, behind) = name_at(self.alloc, part)?;
-            rest = behind;
+            let (name, after_name) = name_at(self.alloc, part)?;
+            rest = after_name;
             left = match self.in_last_item(left) {
-                Some([Step::Key(key), behind @ ..]) if *key == name.as_str() => Some(behind),
+                Some([Step::Key(key), later @ ..]) if *key == name.as_str() => Some(later),
                 _ => None,
             };
             if first(rest) != b'.' {
@@ -136,8 +136,8 @@ impl<'a> Walk<'a> {
     /// Goes into the last item that a header has begun, if the path leads into an array of tables.
     fn in_last_item(&self, left: StepsLeft<'a>) -> StepsLeft<'a> {
         match left? {
-            steps @ [Step::Item(number), behind @ ..] => {
-                (self.item_counts.get(steps.len()) == Some(number)).then_some(behind)
+            steps @ [Step::Item(number), later @ ..] => {
+                (self.item_counts.get(steps.len()) == Some(number)).then_some(later)
             }
             _ => left,
         }
@@ -148,13 +148,13 @@ impl<'a> Walk<'a> {
 /// extended, or else the last.
 pub(crate) fn wrong_part(alloc: Global, document: &str, at: usize) -> Result<usize, AllocError> {
     let mut part = tail(document, at).trim_start_matches(['[', ' ', '\t']);
-    let (key, behind) = dotted_key(alloc, part).map_err(|_| AllocError)?;
+    let (key, after_key) = dotted_key(alloc, part).map_err(|_| AllocError)?;
     // No key of the document is as long.
     let fresh = "x".repeat(alloc, document.len())?;
     for _ in &key.path {
         let (_, rest) = name_at(alloc, part)?;
         let front = document.strip_suffix(rest).unwrap_or("");
-        let text = format!(in alloc; "{front}.{fresh}{behind}")?;
+        let text = format!(in alloc; "{front}.{fresh}{after_key}")?;
         if error_start(toml::table_from_str(alloc, &text))? == Some(at) {
             break;
         }

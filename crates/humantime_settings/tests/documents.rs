@@ -154,7 +154,7 @@ enum Either { Count(u32), Mode(Mode), Numbers(BTreeMap<i64, u32>) }
 
 #[derive(Debug, Drop, Deserialize)]
 #[serde(deny_unknown_fields)]
-struct Whole {
+struct Keyed {
     counts: Option<BTreeMap<Wait, u32>>, waits: Option<BTreeMap<Wait, Wait>>, texts: Option<BTreeMap<String, Wait>>, part: Option<Part>,
     outers: Option<Vec<Outer>>, mode: Option<Mode>, modes: Option<Vec<Mode>>, wait: Option<Wait>, pair: Option<(u32, u32)>,
     rates: Option<Vec<f32>>, either: Option<Either>, eithers: Option<Vec<Either>>, numbers: Option<Vec<BTreeMap<i64, Wait>>>, mixed: Option<Vec<BTreeMap<String, Either>>>,
@@ -211,7 +211,7 @@ fn errors_of_documents(rt: HostRuntime) -> Result<(), Fail> {
         ("invalid type: integer `7`, expected a map", &["^7"]),
     ])?;
     assert_errors(&rt, reads!(Open), &[], NO_JSON)?;
-    assert_errors(&rt, reads!(Whole), NAMES, OF_KEYS)?;
+    assert_errors(&rt, reads!(Keyed), NAMES, OF_KEYS)?;
     assert_errors(&rt, reads!(Table), &[], LARGE_TABLES)?;
     for document in LARGE_TABLES.iter().flat_map(|row| row.1).filter(|document| document.contains('~')) {
         let right = filled(&rt, document, &[("^~^", "s")])?;
@@ -224,7 +224,7 @@ fn errors_of_documents(rt: HostRuntime) -> Result<(), Fail> {
 fn long_keys(rt: HostRuntime) -> Result<(), Fail> {
     // Keys of many bytes, also with wide characters. Of two wrong values, the one whose key sorts first has the error.
     for key in ["«k*74»", "«k*75»", "«k*76»", "«k*77»", "«k*80»", "«k*81»", "«k*200»", "«k*300»", "«k*70»ékkkk", "«k*68»𝄞kkkk"] {
-        assert_errors(&rt, reads!(Whole), &[("K", key)], &[
+        assert_errors(&rt, reads!(Keyed), &[("K", key)], &[
             ("expected number at 0", &["[texts]\n'K' = '^~^'", "[texts]\n'Kb' = '~'\n'Ka' = '^~^'\n'Kc' = '~'"]),
             ("expected a duration in quotes", &["[texts]\n'K' = ^5", "[texts]\n'Ka' = '1s'\n'Kb' = ^5", "[texts]\n'Kb' = 1\n'Kc' = 2\n'Ka' = ^3"]),
         ])?;
@@ -264,8 +264,8 @@ fn errors_are_printed(rt: HostRuntime) -> Result<(), Fail> {
         let error = reader(reads!(Jobs), &document)(alloc, &document).ok_or("read")?;
         assert_eq!(rt; error.to_string(alloc)?, filled(&rt, shown, NAMES)?);
     }
-    let whole = SettingsError::WithoutPosition(String::from_str(alloc, "a\tb\u{1b}\n")?);
-    assert_eq!(rt; whole.to_string(alloc)?.as_str(), "a\tb\\u{1b}\\u{a}");
+    let unplaced = SettingsError::WithoutPosition(String::from_str(alloc, "a\tb\u{1b}\n")?);
+    assert_eq!(rt; unplaced.to_string(alloc)?.as_str(), "a\tb\\u{1b}\\u{a}");
     assert_eq!(rt; SettingsError::OutOfMemory.to_string(alloc)?.as_str(), "out of memory");
     Ok(())
 }

@@ -459,7 +459,7 @@ impl<F: Format> Format for Trace<'_, '_, '_, F> {
         Ok(self.steps.open()?)
     }
 
-    // The names that a derive passes are constants here: the other format finds a key faster.
+    // In line, the names that a derive passes are constants, so the other format finds a key faster.
     #[inline(always)]
     fn next_key(&mut self, _input: &[u8], names: &[Name<'_>]) -> Result<Option<usize>, Stop> {
         let found = seen!(self.next_key(names))?;
