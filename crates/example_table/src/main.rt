@@ -5,7 +5,7 @@
 
 use humantime::{DurationError, StdDuration, format_duration};
 use humantime_std::located::parse_duration;
-use humantime_std::{Located, StdDurationExt, Underline};
+use humantime_std::{Located, MarkedLine, StdDurationExt};
 use std::alloc::{AllocError, Global};
 use std::io::{self, Write};
 use std::process::ExitCode;
@@ -53,12 +53,9 @@ pub fn run(
                 total = sum;
             }
             Err(wrong) => {
-                let carets = carets_of(line, wrong);
+                let marked = marked_line(line, wrong);
                 let number = index + 1;
-                writeln!(
-                    err,
-                    "example_table: line {number}: {wrong}\n{line}\n{carets}"
-                )?;
+                writeln!(err, "example_table: line {number}: {wrong}\n{marked}")?;
                 return Ok(2);
             }
         }
@@ -75,13 +72,19 @@ fn row_of(line: &str, total: StdDuration) -> Result<(Row<'_>, StdDuration), Wron
     Ok((Row { name, duration }, sum))
 }
 
-/// Returns the carets to print under a line.
-fn carets_of<'a>(line: &'a str, wrong: Wrong<'_>) -> Underline<'a> {
+/// Returns a line with what is wrong with it.
+fn marked_line<'a>(line: &'a str, wrong: Wrong<'_>) -> MarkedLine<'a> {
     let start = line.find('\t').map_or(line.len(), |tab| tab + 1);
-    let (before, _) = line.split_at(start);
     match wrong {
-        Wrong::Duration(error) => error.after(start).underline(line),
-        _ => Underline { before, part: "" },
+        Wrong::Duration(error) => error.after(start).marked_line(line),
+        _ => {
+            let (before, after) = line.split_at(start);
+            MarkedLine {
+                before,
+                part: "",
+                after,
+            }
+        }
     }
 }
 

@@ -1,14 +1,14 @@
 //! The error of settings, and its position in a string.
 
-ghost use Rattle.std.specs.Prelude.{◌≡◌, ◌+◌, IfOk, Some, string_bytes};
-ghost use Rattle.std.specs.Fmt.{WritesOnOk};
-ghost use Rattle.humantime_settings.specs.Positions.{IsPositionIn, column_of, columns, escaped, is_hidden, line_of, message_of, printed, shown};
+ghost use Rattle.std.specs.Prelude.{◌≡◌, ◌≢◌, ◌+◌, IfOk, Ok, Some};
+ghost use Rattle.humantime_settings.specs.Positions.{IsErrorIn, column_of, columns, line_of};
+ghost use Rattle.humantime_settings.specs.Positions.{message_of, printed};
 ghost use Rattle.humantime_settings.specs.declared.error.SettingsError.TheVariants.{OutOfMemory};
 
-use humantime_std::located::{Located, Underline};
+use humantime_std::{Escaped, Located, MarkedLine};
 use std::alloc::{AllocError, Global};
 use std::error::Error;
-use std::fmt::{self, InlineText};
+use std::fmt;
 
 /// Why settings were not read or written.
 ///
@@ -19,20 +19,37 @@ use std::fmt::{self, InlineText};
 /// use humantime_settings::{AsText, SettingsError, from_toml};
 /// use std::collections::BTreeMap;
 ///
-/// let text = String::from_str(rt.alloc(), "first = '1s'\nsecond = '90'\n")?;
+/// let text = String::from_str(rt.alloc(), "first = '1s'\nsecond = '5µs 2parsecs'\n")?;
 /// let read = from_toml::<BTreeMap<String, AsText<StdDuration>>>(rt.alloc(), &text);
 /// drop(text);
-/// let Err(SettingsError::At(error)) = read else {
+/// let Err(SettingsError::At { offset, line, before, part, after, message, .. }) = &read else {
 ///     panic!(rt; "{read:?}");
 /// };
-/// assert_eq!(rt; error.message.as_str(), "time unit needed, for example 90sec or 90ms");
+/// assert_eq!(rt; (*offset, *line, before.as_str()), (29, 2, "second = '5µs 2"));
+/// assert_eq!(rt; (part.as_str(), after.as_str()), ("parsecs", "'"));
+/// assert!(rt; message.starts_with("unknown time unit"));
 /// ```
 #[derive(Debug, Drop, PartialEq, Eq)]
 pub enum SettingsError {
     /// An allocation failed.
     OutOfMemory,
-    /// An error at a position of a document.
-    At(ErrorAt),
+    /// An error at a position of a document, with the line there in three parts.
+    #[non_exhaustive]
+    At {
+        /// The byte offset in the document.
+        offset: usize,
+        /// The line number, from 1.
+        line: usize,
+        /// The line up to the error.
+        before: String,
+        /// The part of the line that is wrong. It is empty if something is missing there, or if
+        /// only the start of the error is known.
+        part: String,
+        /// The line after this part.
+        after: String,
+        /// What is wrong.
+        message: String,
+    },
     /// The message of an error without a position: that of a value that cannot be written.
     WithoutPosition(String),
 }
@@ -53,12 +70,13 @@ impl SettingsError {
         ensures { result ≡ line_of self.now }
     {
         match self {
-            SettingsError::At(error) => Some(error.line),
+            SettingsError::At { line, .. } => Some(*line),
             _ => None,
         }
     }
 
-    /// Returns the column of the error, in characters from 1, or `None` if it has no position.
+    /// Returns the column of the error, in characters from 1, of which a byte order mark is none,
+    /// or `None` if it has no position.
     ///
     /// # Examples
     ///
@@ -74,7 +92,7 @@ impl SettingsError {
         ensures { result ≡ column_of self.now }
     {
         match self {
-            SettingsError::At(error) => Some(error.column()),
+            SettingsError::At { before, .. } => Some(column_after(before.as_str())),
             _ => None,
         }
     }
@@ -96,68 +114,20 @@ impl SettingsError {
     {
         match self {
             SettingsError::OutOfMemory => "out of memory",
-            SettingsError::At(error) => error.message.as_str(),
-            SettingsError::WithoutPosition(message) => message.as_str(),
+            SettingsError::At { message, .. } | SettingsError::WithoutPosition(message) => {
+                message.as_str()
+            }
         }
     }
 }
 
-/// An error at a position in a string, with the line that has it in three parts: `before`, `part` and `after`.
-///
-/// A later version may add fields.
-///
-/// # Examples
-///
-/// ```
-/// use humantime::StdDuration;
-/// use humantime_settings::{AsText, SettingsError, from_json};
-///
-/// let text = "[\n  \"1s\", \"5µs 2parsecs\"\n]";
-/// let read = from_json::<Vec<AsText<StdDuration>>>(rt.alloc(), text);
-/// let Err(SettingsError::At(error)) = read else {
-///     panic!(rt; "{read:?}");
-/// };
-/// assert_eq!(rt; (error.offset, error.line, error.column()), (17, 2, 15));
-/// assert_eq!(rt; error.before.as_str(), "  \"1s\", \"5µs 2");
-/// assert_eq!(rt; (error.part.as_str(), error.after.as_str()), ("parsecs", "\""));
-/// assert!(rt; error.message.starts_with("unknown time unit"));
-/// ```
-#[derive(Debug, Drop, PartialEq, Eq)]
-#[non_exhaustive]
-pub struct ErrorAt {
-    /// The byte offset in the string.
-    pub offset: usize,
-    /// The line number, from 1.
-    pub line: usize,
-    /// The line up to the error.
-    pub before: String,
-    /// The part of the line that is wrong. It is empty if something is missing there, or if only the start of the error is known.
-    pub part: String,
-    /// The line after this part.
-    pub after: String,
-    /// What is wrong.
-    pub message: String,
-}
-
-impl ErrorAt {
-    /// Returns the column of the error, in characters from 1, of which a byte order mark is none.
-    ///
-    /// # Examples
-    ///
-    /// ```
-    /// use humantime::StdDuration;
-    /// use humantime_settings::{AsText, SettingsError, from_json};
-    ///
-    /// let read = from_json::<AsText<StdDuration>>(rt.alloc(), "\"5µs x\"");
-    /// assert!(rt; matches!(&read, Err(SettingsError::At(error)) if error.column() == 6));
-    /// ```
-    #[tactic(auto, using(std::proofs::lemmas::Str::chars_from_encodes))]
-    pub fn column(&self) -> usize
-        ensures { result ≡ columns (string_bytes self.now.before) + 1 }
-    {
-        let line = self.before.as_str();
-        line.chars().filter(|c| *c != '\u{feff}').count() + 1
-    }
+/// Returns the column after the start of a line, in characters from 1, of which a byte order mark
+/// is none.
+#[tactic(auto, using(std::proofs::lemmas::Str::chars_from_encodes))]
+fn column_after(line: &str) -> usize
+    ensures { result ≡ columns line.now + 1 }
+{
+    line.chars().filter(|c| *c != '\u{feff}').count() + 1
 }
 
 impl From<AllocError> for SettingsError {
@@ -168,19 +138,8 @@ impl From<AllocError> for SettingsError {
     }
 }
 
-/// The greatest length of a line that is shown whole, in bytes.
-const LONG: usize = 500;
-
-/// The greatest length of each of the three parts of a longer line that is shown.
-const CUT: usize = 100;
-
-/// The greatest length of such a line with its escapes: that of a byte has at most six.
-const LONG_ESCAPED: usize = 3000;
-
-/// Writes the message. An error at a position begins with its line and column, and ends with the line and a caret line: `^` under each
-/// column of what is wrong, or one where only the position is known. Of a line with over 500 bytes, what is around the position is written,
-/// with dots where it is cut. A character that controls a terminal or the direction of its text, or ends a line or a paragraph (U+2028 and
-/// U+2029), but for a tab, is written as an escape such as `\u{1b}`.
+/// Writes the message, with escapes as [`Escaped`] does. An error at a position begins with its
+/// line and column, and ends with the line and a caret line, as [`MarkedLine`] writes them.
 ///
 /// # Examples
 ///
@@ -195,125 +154,56 @@ const LONG_ESCAPED: usize = 3000;
 /// assert!(rt; shown.ends_with("\n  \"1s\", \"5µs 7moons\"\n              ^^^^^"));
 /// ```
 impl fmt::Display for SettingsError {
-    ghost output = { printed };
+    ghost output = { λ error. Some (printed error) };
 
     fn fmt<W: fmt::Write>(&self, f: &mut fmt::Formatter<W>) -> fmt::Result {
         let message = Escaped(self.message());
-        let SettingsError::At(error) = self else {
+        let SettingsError::At {
+            line,
+            before,
+            part,
+            after,
+            ..
+        } = self
+        else {
             return write!(f, "{message}");
         };
-        write!(
-            f,
-            "line {}, column {}: {message}",
-            error.line,
-            error.column()
-        )?;
-        let after = error.after.trim_end_matches('\r');
-        let (before, part) = (error.before.as_str(), error.part.as_str());
-        let len = before.len().saturating_add(part.len());
-        let is_long = len.saturating_add(after.len()) > LONG;
-        let most = if is_long { CUT } else { LONG };
-        let (front, before) = end_of(before, most);
-        let (part, cut) = start_of(part, most);
-        let (after, back) = if cut.is_empty() {
-            start_of(after, most)
-        } else {
-            ("", cut)
+        let (before, part, after) = (before.as_str(), part.as_str(), after.as_str());
+        let column = column_after(before);
+        let marked = MarkedLine {
+            before,
+            part,
+            after,
         };
-        let blank = if front.is_empty() { "" } else { "   " };
-        let before = InlineText::<LONG_ESCAPED>::of(Escaped(before));
-        let shown = InlineText::<LONG_ESCAPED>::of(Escaped(part));
-        let (before, part) = (before.as_str(), shown.as_str());
-        let carets = Underline { before, part };
-        write!(
-            f,
-            "\n{front}{before}{part}{}{back}\n{blank}{carets}",
-            Escaped(after)
-        )
-    }
-}
-
-/// Returns the end of a string, and before it dots, if that is not all.
-fn end_of(text: &str, most: usize) -> (&str, &str) {
-    let cut = text.len().saturating_sub(most);
-    let (_, end) = text.split_at(text.ceil_char_boundary(cut));
-    (if cut > 0 { "..." } else { "" }, end)
-}
-
-/// Returns the start of a string, and dots, if that is not all.
-fn start_of(text: &str, most: usize) -> (&str, &str) {
-    let (start, rest) = text.split_at(text.floor_char_boundary(most));
-    (start, if rest.is_empty() { "" } else { "..." })
-}
-
-/// A string that is written with an escape in place of each character that is not to reach a terminal.
-#[derive(Clone, Copy)]
-struct Escaped<'a>(&'a str);
-
-impl fmt::Display for Escaped<'_> {
-    ghost output = { λ e. Some (escaped e.0.now) };
-
-    fn fmt<W: fmt::Write>(&self, f: &mut fmt::Formatter<W>) -> fmt::Result {
-        for c in self.0.chars() {
-            write_shown(f, c)?;
-        }
-        Ok(())
-    }
-}
-
-/// Writes a character or its escape.
-fn write_shown<W: fmt::Write>(f: &mut fmt::Formatter<W>, c: char) -> fmt::Result
-    ensures { WritesOnOk W.write_str_gives f.old result (shown c) f.new }
-{
-    if is_hidden(c) {
-        write!(f, "\\u{{{:x}}}", c as u32)
-    } else {
-        f.write_char(c)
-    }
-}
-
-/// Returns `true` for a character that controls a terminal, except for a tab, or the direction of its text, and for the ends of a line and of
-/// a paragraph, U+2028 and U+2029.
-fn is_hidden(c: char) -> bool
-    ensures { result ≡ is_hidden c }
-{
-    match c {
-        '\t' => false,
-        '\u{61c}' | '\u{200e}' | '\u{200f}' | '\u{2028}'..='\u{202e}' | '\u{2066}'..='\u{2069}' =>
-            true,
-        _ => c.is_control(),
+        write!(f, "line {line}, column {column}: {message}\n{marked}")
     }
 }
 
 impl Error for SettingsError {}
 
-/// Returns an error with its line. It begins where a character begins or the string ends, and ends with the line at the latest.
+/// Returns an error of a document. It begins where a character begins or the document ends.
 pub(crate) fn error_at(
     alloc: Global,
     text: &str,
     error: Located<String>,
-) -> Result<ErrorAt, AllocError>
-    ensures { IfOk result (IsPositionIn text.now) }
+) -> Result<SettingsError, AllocError>
+    ensures position { IfOk result (IsErrorIn text.now) }
+    ensures positioned { (message : _) → result ≢ Ok (SettingsError.WithoutPosition message) }
 {
     let start = text.floor_char_boundary(error.start);
+    let end = text.floor_char_boundary(error.end).max(start);
     let place = Located {
         error: (),
         start,
-        end: start,
+        end,
     };
     let report = place.report(text);
-    let line = report.rest;
-    let len = error
-        .end
-        .saturating_sub(start)
-        .min(line.trim_end_matches('\r').len());
-    let (part, after) = line.split_at(line.floor_char_boundary(len));
-    Ok(ErrorAt {
+    Ok(SettingsError::At {
         offset: start,
         line: report.number.unwrap_or(1),
-        before: String::from_str(alloc, report.underline.before)?,
-        part: String::from_str(alloc, part)?,
-        after: String::from_str(alloc, after)?,
+        before: String::from_str(alloc, report.line.before)?,
+        part: String::from_str(alloc, report.line.part)?,
+        after: String::from_str(alloc, report.line.after)?,
         message: error.error,
     })
 }

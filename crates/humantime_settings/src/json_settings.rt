@@ -1,11 +1,11 @@
 //! Settings in JSON, and the position of an error in them.
 
-ghost use Rattle.std.specs.Prelude.{◌≡◌, ◌≢◌, [], Err, IfErr, IfOk, Some, false, string_bytes};
+ghost use Rattle.std.specs.Prelude.{◌≡◌, ◌≢◌, [], IfErr, IfOk, Some, false, string_bytes};
 ghost use Rattle.json.specs.Layout.{pretty};
 ghost use Rattle.json.specs.Lex.{tokens};
 ghost use Rattle.serde.specs.Event.{Log};
 ghost use Rattle.serde_json.specs.Sent.{AreTokensOf};
-ghost use Rattle.humantime_settings.specs.Positions.{IsErrorIn};
+ghost use Rattle.humantime_settings.specs.Positions.{IsErrorIn, line_of};
 
 use crate::error::{SettingsError, error_at};
 use crate::error_range::{error_from, range_at};
@@ -48,7 +48,7 @@ pub fn from_json<'a, T: Deserialize<'a>>(alloc: Global, text: &'a str) -> Result
         Ok(Traced(Err(rejection))) => rejected(alloc, text, &rejection)?,
         Err(error) => document_error(alloc, text, &error)?,
     };
-    Err(SettingsError::At(error_at(alloc, text, error)?))
+    Err(error_at(alloc, text, error)?)
 }
 
 /// Writes settings in pretty-printed JSON.
@@ -70,7 +70,7 @@ pub fn from_json<'a, T: Deserialize<'a>>(alloc: Global, text: &'a str) -> Result
 pub fn to_json<T: Serialize>(alloc: Global, value: &T) -> Result<String, SettingsError>
     ensures tokens { IfOk result (λ s. (log : Log) × T.writes value.now (Some []) log × AreTokensOf false log (tokens (string_bytes s))) }
     ensures layout { IfOk result (λ s. string_bytes s ≡ pretty (tokens (string_bytes s))) }
-    ensures unplaced { (error : _) → result ≢ Err (SettingsError.At error) }
+    ensures unplaced { IfErr result (λ error. line_of error ≡ None) }
 {
     match serde_json::to_string_pretty(alloc, value) {
         Ok(text) => Ok(text),

@@ -52,7 +52,7 @@ mod raw_strings;
 mod toml_positions;
 mod toml_settings;
 
-pub use error::{ErrorAt, SettingsError};
+pub use error::SettingsError;
 pub use fields::{AsText, Field, deserialize, serialize};
 pub use json_settings::{from_json, to_json};
 pub use toml_settings::{from_toml, to_toml};

@@ -1,8 +1,8 @@
 //! Settings in TOML, and the position of an error in them.
 
-ghost use Rattle.std.specs.Prelude.{◌≢◌, Err, IfErr, IfOk, IsSome, Ok, OnOk};
+ghost use Rattle.std.specs.Prelude.{◌≡◌, ◌≢◌, IfErr, IfOk, IsSome, Ok, OnOk};
 ghost use Rattle.toml.specs.Parse.{parse_document};
-ghost use Rattle.humantime_settings.specs.Positions.{IsErrorIn};
+ghost use Rattle.humantime_settings.specs.Positions.{IsErrorIn, line_of};
 
 use crate::error::{SettingsError, error_at};
 use crate::error_range::{error_from, range_at};
@@ -53,7 +53,7 @@ pub fn from_toml<T: DeserializeOwned>(alloc: Global, text: &str) -> Result<T, Se
         Err(error) => return Err(document_error(alloc, text, &error)?),
     };
     let error = located(alloc, text, rejection)?;
-    Err(SettingsError::At(error_at(alloc, text, error)?))
+    Err(error_at(alloc, text, error)?)
 }
 
 /// Writes settings in TOML.
@@ -75,7 +75,7 @@ pub fn from_toml<T: DeserializeOwned>(alloc: Global, text: &str) -> Result<T, Se
 /// assert_eq!(rt; to_toml(rt.alloc(), &waits)?.as_str(), "first = \"1m 30s\"\n");
 /// ```
 pub fn to_toml<T: Serialize>(alloc: Global, value: &T) -> Result<String, SettingsError>
-    ensures { (error : _) → result ≢ Err (SettingsError.At error) }
+    ensures { IfErr result (λ error. line_of error ≡ None) }
 {
     match toml::to_string(alloc, value) {
         Ok(text) => Ok(text),
@@ -102,7 +102,7 @@ fn document_error(
         at = wrong_part(alloc, text, at)?;
     }
     let error = error_from(at, String::from_str(alloc, error.message())?);
-    Ok(SettingsError::At(error_at(alloc, text, error)?))
+    Ok(error_at(alloc, text, error)?)
 }
 
 /// Returns the error of a value.

@@ -246,14 +246,34 @@ const PRINTED: &[(&str, &str)] = &[
     ("{\"\u{2028}\u{200f}\u{61c}\": 1, \"timeout\": \"1~\"}", "line 1, column 25: invalid character at 1\n{\"\\u{2028}\\u{200f}\\u{61c}\": 1, \"timeout\": \"1~\"}\n                                            ^"),
     // Only the carriage return is cut off the line.
     ("timeout = '1~' \t\r\n", "line 1, column 13: invalid character at 1\ntimeout = '1~' \t\n            ^"),
-    // A line of 500 bytes is shown whole, and of a longer one at most 100 bytes on each side of the error and in it.
-    ("timeout = '« *486»1~'", "line 1, column 499: invalid character at 487\ntimeout = '« *486»1~'\n« *498»^"),
-    ("timeout = '« *487»1~'", "line 1, column 500: invalid character at 488\n...« *99»1~'\n« *103»^"),
-    ("timeout = '«\u{a0}*250»1~'", "line 1, column 263: invalid character at 501\n...«\u{a0}*49»1~'\n« *53»^"),
-    ("timeout = '«\u{3000}*200»1~'", "line 1, column 213: invalid character at 601\n...«\u{3000}*33»1~'\n« *70»^"),
-    ("{\"timeout\":\"1«x*300»\", \"«x*300»\":1}", "line 1, column 14: unknown time unit \"«x*300»\", UNITS\n{\"timeout\":\"1«x*100»...\n« *13»«^*100»"),
-    // The escapes of a line that is shown are not cut.
-    ("{\"«\u{9b}*200»\": 1, \"timeout\": \"1~\"}", "line 1, column 222: invalid character at 1\n{\"«\\u{9b}*200»\": 1, \"timeout\": \"1~\"}\n« *1221»^"),
+    // A line of 78 columns is shown whole.
+    (
+        "timeout = '« *64»1~'",
+        "line 1, column 77: invalid character at 65\ntimeout = '« *64»1~'\n« *76»^",
+    ),
+    // Of a wider one the end before the error has what the rest leaves, less three columns for dots.
+    (
+        "timeout = '« *65»1~'",
+        "line 1, column 78: invalid character at 66\n...out = '« *65»1~'\n« *76»^",
+    ),
+    (
+        "timeout = '«\u{a0}*250»1~'",
+        "line 1, column 263: invalid character at 501\n...«\u{a0}*72»1~'\n« *76»^",
+    ),
+    (
+        "timeout = '«\u{3000}*200»1~'",
+        "line 1, column 213: invalid character at 601\n...«\u{3000}*36»1~'\n« *76»^",
+    ),
+    // What is wrong and what follows it have the other columns.
+    (
+        "{\"timeout\":\"1«x*300»\", \"«x*300»\":1}",
+        "line 1, column 14: unknown time unit \"«x*300»\", UNITS\n{\"timeout\":\"1«x*62»...\n« *13»«^*62»",
+    ),
+    // An escape is not cut.
+    (
+        "{\"«\u{9b}*200»\": 1, \"timeout\": \"1~\"}",
+        "line 1, column 222: invalid character at 1\n...«\\u{9b}*6»\": 1, \"timeout\": \"1~\"}\n« *58»^",
+    ),
 ];
 
 #[test]
@@ -288,7 +308,8 @@ fn each_byte_alone(rt: HostRuntime) -> Result<(), Fail> {
         let text = format!(in rt.alloc(); "{}", char::from(byte))?;
         for read in reads!(Jobs) {
             let error = read(rt.alloc(), &text);
-            assert!(rt; matches!(&error, Some(SettingsError::At(error)) if error.offset <= 1), "{error:?} {text:?}");
+            let at_start = matches!(&error, Some(SettingsError::At { offset, .. }) if *offset <= 1);
+            assert!(rt; at_start, "{error:?} {text:?}");
         }
     }
     Ok(())

@@ -4,6 +4,7 @@
 mod attributes;
 mod documents;
 mod drawn;
+mod printed;
 mod refused;
 pub(crate) mod support;
 mod values;

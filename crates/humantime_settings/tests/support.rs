@@ -21,10 +21,12 @@ macro_rules! reads {
 }
 pub(crate) use reads;
 
-/// A message, and documents with this error. It begins at `^`, and ends at a second one, if its end is known.
+/// A message, and documents with this error. It begins at `^`, and ends at a second one, if its end
+/// is known.
 pub(crate) type Row<'a> = (&'a str, &'a [&'a str]);
 
-/// Returns a text with what names in it stand for, and each `«text*count»` as this text repeated, with the number of each for `#`.
+/// Returns a text with what names in it stand for, and each `«text*count»` as this text repeated,
+/// with the number of each for `#`.
 pub(crate) fn filled(rt: &impl AllocGlobal, text: &str, names: &[(&str, &str)]) -> Result<String, Fail> {
     let (alloc, mut named) = (rt.alloc(), String::from_str(rt.alloc(), text)?);
     for (name, meaning) in names {
@@ -64,11 +66,17 @@ pub(crate) fn message_at(rt: &(impl Abort + AllocGlobal), read: Read, document: 
     let (front, rest) = document.split_once('^').ok_or("no mark")?;
     let (marked, back) = rest.split_once('^').unwrap_or(("", rest));
     let read_as = read(rt.alloc(), &format!(in rt.alloc(); "{front}{marked}{back}")?);
-    let Some(SettingsError::At(error)) = read_as else { panic!(rt; "{read_as:?} {document}") };
+    let Some(error) = read_as else {
+        panic!(rt; "read {document}");
+    };
+    let SettingsError::At { offset, part, .. } = &error else {
+        panic!(rt; "{error:?} {document}");
+    };
     let line = front.matches('\n').count() + 1;
     let column = front.rsplit('\n').next().unwrap_or("").chars().filter(|c| *c != '\u{feff}').count() + 1;
     // A mark ends with its line.
-    let part = marked.lines().next().unwrap_or("");
-    assert_eq!(rt; (error.offset, error.line, error.column(), error.part.as_str()), (front.len(), line, column, part), "{document}");
-    Ok(error.message)
+    let marked = marked.lines().next().unwrap_or("");
+    assert_eq!(rt; (*offset, part.as_str()), (front.len(), marked), "{document}");
+    assert_eq!(rt; (error.line(), error.column()), (Some(line), Some(column)), "{document}");
+    Ok(String::from_str(rt.alloc(), error.message())?)
 }

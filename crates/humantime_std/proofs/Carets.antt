@@ -1,7 +1,13 @@
 -- What stands under a line up to a part, piece by piece.
 use Rattle.humantime.proofs.Prelude.{arith, ◌≡◌, ◌==◌, ℕ, zero, suc, ◌-◌, ◌<◌, ◌≤◌, true, not, List, [], ◌∷◌, ◌++◌, length, drop, get_or, map, refl, sym, ap, subst, append_assoc, replicate, has_written_styled_append, has_written_styled_of_eq, get_or-drop, length-drop, slice_split_first, slice_split_none, length-slice_split, fails_before_first, suffix_len_is, NoCharPasses-char, HasWritten, HasWrittenStyled, IsDefaultSpec, IsPlainFormatter, Formatter, position_or_len, before_first, after_last, after_first, join_with_byte, repeat, slice_split, max, NoCharPasses}
 use Rattle.std.specs.Prelude.{count_by}
-use Rattle.humantime_std.specs.Carets.{columns, blanks, caret_line, is_line_feed, is_tab}
+use Rattle.std.proofs.Common.{◌∙◌, append-nil}
+use Rattle.std.specs.Fmt.{WritesInCalls}
+use Rattle.std.specs.Fmt.InlineText.{AppendsIfIntact, IsIntact, inline_text}
+use Rattle.std.specs.declared.fmt.InlineText.{InlineText}
+use Rattle.std.specs.List.{FoldsTo, concat}
+use Rattle.humantime_std.specs.Carets.{columns, blanks, caret_line, is_tab}
+use Rattle.humantime_std.specs.Lines.{is_line_feed}
 
 -- What is written whatever the options are, is written without options.
 pub written_plainly : {W : Type 0} (took : W → List ℕ → W → Type 0) (f : Formatter W) (bs : List ℕ) (g : Formatter W)
@@ -18,7 +24,8 @@ joined : (f : List ℕ → List ℕ) (x : List ℕ) (pieces : List (List ℕ)) �
 joined f x [] some = absurd (omega arith)
 joined f x (piece ∷ pieces) some = refl
 
--- What has been written, and what stands under the rest of the line up to a part, are all that stands under it.
+-- What has been written, and what stands under the rest of the line up to a part, are all that
+-- stands under it.
 pub record Under {W : Type 0} (took : W → List ℕ → W → Type 0) (f : Formatter W) (rest before : List ℕ) (g : Formatter W) : Type 0 where
   pub done : List ℕ
   pub wrote : HasWrittenStyled took f done g
@@ -74,3 +81,21 @@ has_no_feed text none =
     omega (arith, rw whole at (length-slice_split is_line_feed text))
 
 pub ruleset first_feeds = (has_feeds, has_no_feed)
+
+-- What is written to a text is at its end.
+inline_after : {n : ℕ} (old : InlineText n) (parts : List (List ℕ)) (new : InlineText n)
+    → IsIntact old → FoldsTo AppendsIfIntact old parts new
+    → inline_text new ≡ inline_text old ++ concat parts
+inline_after old [] new intact same = sym (append-nil (inline_text old) ∙ ap inline_text same)
+inline_after old (part ∷ parts) new intact calls =
+    let first = calls.1 intact in
+    inline_after calls.0 parts new first.0 calls.2
+    ∙ ap (λ shown. shown ++ concat parts) first.1
+    ∙ append_assoc (inline_text old) part (concat parts)
+
+-- What is written to an empty text is the text.
+pub inline_written : {n : ℕ} (old new : InlineText n) (bs : List ℕ) → inline_text old ≡ []
+    → IsIntact old → WritesInCalls AppendsIfIntact old bs new → inline_text new ≡ bs
+inline_written old new bs empty intact wrote =
+    inline_after old wrote.parts new intact wrote.calls
+    ∙ ap (λ shown. shown ++ concat wrote.parts) empty ∙ wrote.whole

@@ -17,7 +17,9 @@ use Rattle.humantime_std.specs.Located.{BeginsSpans, Fit, OverflowsAt, body, dro
 
 -- ---- Offsets
 
-scalars_parts : (xs ys : List ℕ) → scalars (xs ++ ys) ≡ true → (scalars xs ≡ true) × (scalars ys ≡ true)
+-- The characters of each of two lists are scalar values if those of both are.
+pub scalars_parts : (xs ys : List ℕ) → scalars (xs ++ ys) ≡ true
+    → (scalars xs ≡ true) × (scalars ys ≡ true)
 scalars_parts [] ys h = (refl, h)
 scalars_parts (x ∷ xs) ys h = grind (arith, (scalars_parts xs ys))
 

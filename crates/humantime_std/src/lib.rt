@@ -24,5 +24,5 @@ mod times;
 
 pub use clocks::{deadline, elapsed, now, sleep, time_left};
 pub use durations::{StdDurationExt, error_offset, next_delay};
-pub use located::{Located, Report, Underline};
+pub use located::{Escaped, Located, MarkedLine, Report};
 pub use times::{SystemTimeExt, next_run};

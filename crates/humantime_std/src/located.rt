@@ -1,27 +1,31 @@
 //! The parsers of `humantime`, with errors that contain the range of the bytes that are wrong.
 
-ghost use Rattle.std.specs.Prelude.{◌≡◌, ◌+◌, ◌-◌, ◌^◌, ◌<◌, ◌≤◌, chars, drop, length, min, slice_range, suc, take, true, Err, IfErr, SomeIff};
+ghost use Rattle.std.specs.Prelude.{◌≡◌, ◌+◌, ◌-◌, ◌^◌, ◌<◌, ◌≤◌, chars, drop, length, min, suc, take, true, Err, IfErr, SomeIff};
 ghost use Rattle.std.specs.Char.{is_ascii_digit};
 ghost use Rattle.std.specs.List.{after_last, before_first, prefix_len};
 ghost use Rattle.std.specs.Result.{result_err, result_map_both};
 ghost use Rattle.std.specs.Str.{IsCharBoundary};
 ghost use Rattle.humantime.specs.Prelude.{NumberOverflow, duration_answer, fault_of, strict_answer, weak_answer};
 ghost use Rattle.humantime.specs.Timestamps.{has_digits, has_two, number_between};
-ghost use Rattle.humantime_std.specs.Carets.{is_line_feed, line_number};
+ghost use Rattle.humantime_std.specs.Lines.{line_after, line_before, line_number};
 ghost use Rattle.humantime_std.specs.Located as spec;
 ghost use Rattle.humantime_std.specs.Located.{BeginsSpans, Fit, IsFaultRange, IsRangeIn, OverflowsAt, body, end_at, start_at, strict_error, weak_error};
 
 mod carets;
+mod escapes;
+mod window;
 
-pub use carets::{Report, Underline};
+pub use carets::{MarkedLine, Report};
 use carets::{first_line, has_line_feed, last_line, line_feeds};
+pub use escapes::Escaped;
 use humantime::{
     Date, DurationError, StdDuration, SystemTime, TimestampError, Turns, day_number, spans,
 };
 use std::error::Error;
 use std::fmt::{self, Display};
 
-/// An error of a parser, and the range of the bytes that are wrong. The parsers return ranges that begin and end at `char` boundaries.
+/// An error of a parser, and the range of the bytes that are wrong. The parsers return ranges that
+/// begin and end at `char` boundaries.
 ///
 /// `Display` writes the message of the error.
 ///
@@ -38,16 +42,19 @@ use std::fmt::{self, Display};
 pub struct Located<E> {
     /// Why the string is rejected.
     pub error: E,
-    /// The start of the range: the offset of the first byte that is wrong, or at which something is missing.
+    /// The start of the range: the offset of the first byte that is wrong, or at which something is
+    /// missing.
     pub start: usize,
     /// The end of the range, exclusive. It is `start` if something is missing there.
     pub end: usize,
 }
 
 impl<E> Located<E> {
-    /// Returns a caret line to print under the string: `^` under each column that is wrong, or one where something is missing.
+    /// Returns the line of the string in which the range starts, with the part that is wrong, to
+    /// print with a caret line.
     ///
-    /// A range that is not in `text` counts as empty, and a start that is not a `char` boundary of `text` as its end.
+    /// A range that is not in `text` counts as empty, and a start that is not a `char` boundary of
+    /// `text` as its end.
     ///
     /// # Examples
     ///
@@ -55,21 +62,35 @@ impl<E> Located<E> {
     /// use humantime_std::located::parse_duration;
     ///
     /// let text = "5µs 2parsecs";
-    /// let error = parse_duration(text).expect_err(&rt, "no such unit");
-    /// let carets = format!(in rt.alloc(); "{}", error.underline(text))?;
-    /// assert_eq!(rt; carets.as_str(), "     ^^^^^^^");
+    /// let line = parse_duration(text).expect_err(&rt, "no such unit").marked_line(text);
+    /// assert_eq!(rt; (line.before, line.part, line.after), ("5µs 2", "parsecs", ""));
+    /// let lines = "5µs 2parsecs\n     ^^^^^^^";
+    /// assert_eq!(rt; line.to_string(rt.alloc())?.as_str(), lines);
     /// ```
-    pub fn underline<'a>(&self, text: &'a str) -> Underline<'a>
-        ensures before { IsCharBoundary text.now self.now.start → result.before.now ≡ take self.now.start text.now }
-        ensures part { IsRangeIn text.now self.now.start self.now.end → result.part.now ≡ slice_range text.now self.now.start self.now.end }
-        ensures end { ¬ (IsCharBoundary text.now self.now.start) → result.before.now ≡ text.now }
+    pub fn marked_line<'a>(&self, text: &'a str) -> MarkedLine<'a>
+        ensures before { IsCharBoundary text.now self.now.start
+            → result.before.now ≡ line_before text.now self.now.start }
+        ensures part { IsRangeIn text.now self.now.start self.now.end
+            → let len = self.now.end - self.now.start in
+            result.part.now ≡ take len (line_after text.now self.now.start) }
+        ensures after { IsRangeIn text.now self.now.start self.now.end
+            → let len = self.now.end - self.now.start in
+            result.after.now ≡ drop len (line_after text.now self.now.start) }
+        ensures end { ¬ (IsCharBoundary text.now self.now.start)
+            → result.before.now ≡ line_before text.now (length text.now) }
     {
-        let (before, _) = text.split_at_checked(self.start).unwrap_or((text, ""));
-        let part = text.get(self.start..self.end).unwrap_or("");
-        Underline { before, part }
+        let (before, rest) = text.split_at_checked(self.start).unwrap_or((text, ""));
+        let len = self.end.saturating_sub(self.start);
+        let len = if rest.is_char_boundary(len) { len } else { 0 };
+        let (part, after) = split_line(first_line(rest), len);
+        MarkedLine {
+            before: last_line(before),
+            part,
+            after,
+        }
     }
 
-    /// Returns this error with the line of the string in which it is, and a caret line under it, to print.
+    /// Returns this error with its line, to print with what is wrong and a caret line.
     ///
     /// # Examples
     ///
@@ -84,25 +105,28 @@ impl<E> Located<E> {
     /// ```
     pub fn report<'a>(self, text: &'a str) -> Report<'a, E>
         ensures error { result.error ≡ self.error }
-        ensures number { IsRangeIn text.now self.start self.end → result.number ≡ line_number text.now self.start }
-        ensures before { IsRangeIn text.now self.start self.end → result.underline.before.now ≡ after_last is_line_feed (take self.start text.now) }
-        ensures part { IsRangeIn text.now self.start self.end → result.underline.part.now ≡ before_first is_line_feed (slice_range text.now self.start self.end) }
-        ensures rest { IsRangeIn text.now self.start self.end → result.rest.now ≡ before_first is_line_feed (drop self.start text.now) }
+        ensures number { IsRangeIn text.now self.start self.end
+            → result.number ≡ line_number text.now self.start }
+        ensures before { IsCharBoundary text.now self.start
+            → result.line.before.now ≡ line_before text.now self.start }
+        ensures part { IsRangeIn text.now self.start self.end
+            → let len = self.end - self.start in
+            result.line.part.now ≡ take len (line_after text.now self.start) }
+        ensures after { IsRangeIn text.now self.start self.end
+            → let len = self.end - self.start in
+            result.line.after.now ≡ drop len (line_after text.now self.start) }
     {
-        let Underline { before, part } = self.underline(text);
+        let (before, _) = text.split_at_checked(self.start).unwrap_or((text, ""));
         Report {
-            error: self.error,
             number: has_line_feed(text).then_some(line_feeds(before) + 1),
-            underline: Underline {
-                before: last_line(before),
-                part: first_line(part),
-            },
-            rest: first_line(text.get(self.start..).unwrap_or("")),
+            line: self.marked_line(text),
+            error: self.error,
         }
     }
 
-    /// Returns this error for a string with `offset` more bytes before it: adds `offset` to both ends of the range. A sum above `usize::MAX`
-    /// becomes `usize::MAX`. The message stays the same: an offset in it counts from the start of the string that was parsed.
+    /// Returns this error for a string with `offset` more bytes before it: adds `offset` to both
+    /// ends of the range. A sum above `usize::MAX` becomes `usize::MAX`. The message stays the
+    /// same: an offset in it counts from the start of the string that was parsed.
     ///
     /// # Examples
     ///
@@ -111,7 +135,7 @@ impl<E> Located<E> {
     ///
     /// let line = "limit = 5 moons";
     /// let error = parse_duration("5 moons").expect_err(&rt, "no such unit").after("limit = ".len());
-    /// assert_eq!(rt; error.underline(line).part, "moons");
+    /// assert_eq!(rt; error.marked_line(line).part, "moons");
     /// ```
     pub fn after(self, offset: usize) -> Located<E>
         ensures error { result.error ≡ self.error }
@@ -139,17 +163,27 @@ impl<E: Display> Display for Located<E> {
 
 impl<E: Error> Error for Located<E> {}
 
-/// What can stand at each of the first 19 bytes: `0` is any digit, a space is a `T` or, in the weak format, a space, and another byte is
-/// that byte.
+/// Splits a line after a number of bytes, or after its end if it has fewer.
+fn split_line(line: &str, len: usize) -> (&str, &str)
+    requires { len ≤ length line.now → IsCharBoundary line.now len }
+    ensures front { result.0.now ≡ take len line.now }
+    ensures back { result.1.now ≡ drop len line.now }
+{
+    line.split_at_checked(len).unwrap_or((line, ""))
+}
+
+/// What can stand at each of the first 19 bytes: `0` is any digit, a space is a `T` or, in the weak
+/// format, a space, and another byte is that byte.
 static LAYOUT: [u8; 19] = *b"0000-00-00 00:00:00";
 
 /// Parses a duration as [`humantime::parse_duration`] does.
 ///
 /// # Errors
 ///
-/// The range of an error is the wrong character, or the unknown unit; where a unit is missing, it is empty, at the end of the string. The
-/// range of `NumberOverflow` is the first span with which the string overflows, or, if its number or fraction is too long, everything from
-/// its start on. The range of `Empty` is the whole string.
+/// The range of an error is the wrong character, or the unknown unit; where a unit is missing, it
+/// is empty, at the end of the string. The range of `NumberOverflow` is the first span with which
+/// the string overflows, or, if its number or fraction is too long, everything from its start on.
+/// The range of `Empty` is the whole string.
 ///
 /// # Examples
 ///
@@ -204,7 +238,7 @@ pub fn parse_duration(text: &str) -> Result<StdDuration, Located<DurationError<'
 ///     ("2018-02-14 00:28:07+02:00", "+02:00"),
 /// ] {
 ///     let error = parse_rfc3339_weak(text).expect_err(&rt, "wrong");
-///     assert_eq!(rt; error.underline(text).part, part);
+///     assert_eq!(rt; error.marked_line(text).part, part);
 /// }
 /// assert!(rt; parse_rfc3339_weak("2018-02-14 00:28:07.5").is_ok());
 /// ```
@@ -220,8 +254,9 @@ pub fn parse_rfc3339_weak(text: &str) -> Result<SystemTime, Located<TimestampErr
 ///
 /// # Errors
 ///
-/// Returns its error with the bytes that are wrong, as [`parse_rfc3339_weak`] does, but the range is that of a number only if the
-/// error is `OutOfRange`. A space in place of the `T` is wrong. If only the zone is missing, the range is empty, at the end of the string.
+/// Returns its error with the bytes that are wrong, as [`parse_rfc3339_weak`] does, but the range
+/// is that of a number only if the error is `OutOfRange`. A space in place of the `T` is wrong. If
+/// only the zone is missing, the range is empty, at the end of the string.
 ///
 /// # Examples
 ///
@@ -230,7 +265,7 @@ pub fn parse_rfc3339_weak(text: &str) -> Result<SystemTime, Located<TimestampErr
 ///
 /// for (text, start, part) in [("2018-02-14 00:28:07Z", 10, " "), ("2018-02-14T00:28:07", 19, "")] {
 ///     let error = parse_rfc3339(text).expect_err(&rt, "wrong");
-///     assert_eq!(rt; (error.start, error.underline(text).part), (start, part));
+///     assert_eq!(rt; (error.start, error.marked_line(text).part), (start, part));
 /// }
 /// assert!(rt; parse_rfc3339("2018-02-14T00:28:07.5Z").is_ok());
 /// ```
@@ -244,8 +279,8 @@ pub fn parse_rfc3339(text: &str) -> Result<SystemTime, Located<TimestampError>>
 
 /// Returns the range of the first span up to whose end a string overflows.
 ///
-/// It finds the number of spans that fit by binary search. Each test parses a prefix of the string, so a test for each span would
-/// take quadratic time.
+/// It finds the number of spans that fit by binary search. Each test parses a prefix of the string,
+/// so a test for each span would take quadratic time.
 fn overflow_range(text: &str) -> (usize, usize)
     requires { duration_answer (chars text.now) ≡ Err NumberOverflow }
     ensures place { OverflowsAt (chars text.now) result.0 result.1 }
@@ -266,7 +301,8 @@ fn overflow_range(text: &str) -> (usize, usize)
     (start, span_end(text, low).unwrap_or(text.len()))
 }
 
-/// Returns the offset after the span at an index and the whitespace after it, if the spans up to this one are within the limits.
+/// Returns the offset after the span at an index and the whitespace after it, if the spans up to
+/// this one are within the limits.
 #[tactic(auto, using(crate::proofs::Overflows::after_span))]
 fn fitting_end(text: &str, index: usize) -> Option<usize>
     ensures { SomeIff result (Fit (chars text.now) (suc index)) (start_at (suc index) (chars text.now)) }
@@ -368,7 +404,8 @@ fn pair(bytes: &[u8], at: usize) -> u32
     (bytes[at] - b'0') as u32 * 10 + (bytes[at + 1] - b'0') as u32
 }
 
-/// Returns the length of the longest timestamp at the front of a string whose first 19 bytes fit the layout.
+/// Returns the length of the longest timestamp at the front of a string whose first 19 bytes fit
+/// the layout.
 #[tactic(auto, unfolding(crate::specs::Located::zone_len))]
 fn timestamp_len(bytes: &[u8]) -> usize
     requires { 19 ≤ length bytes.now }

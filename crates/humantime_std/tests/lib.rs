@@ -2,4 +2,5 @@
 #![tactic(auto)]
 
 mod clocks;
+mod lines;
 mod located;

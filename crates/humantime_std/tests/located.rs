@@ -52,29 +52,6 @@ fn an_overflow_has_its_span(rt: HostRuntime) {
     }
 }
 
-/// The lines below the message of any range, also of one that no parser returns.
-#[test]
-fn any_range_is_shown(rt: HostRuntime) -> Result<(), Fail> {
-    for (text, start, end, lines) in &[
-        ("", 0, 0, "\n  \n  ^"), ("ab", 1, 99, "\n  ab\n   ^"), ("ab", 2, 1, "\n  ab\n    ^"), ("ab", 7, 9, "\n  ab\n    ^"),
-        ("é", 1, 2, "\n  é\n   ^"), ("aé", 0, 2, "\n  aé\n  ^"), ("a\t\tb中文", 4, 10, "\n  a\t\tb中文\n   \t\t ^^^^"),
-        ("\u{301}", 0, 2, "\n  \u{301}\n  ^"), ("\u{1b}\0\r", 1, 2, "\n  \u{1b}\0\r\n   ^"),
-    ] {
-        let report = Located { error: FORMAT, start: *start, end: *end }.report(text).to_string(rt.alloc())?;
-        assert_eq!(rt; report.as_str().strip_prefix("timestamp format is invalid"), Some(*lines), "{text}");
-    }
-    let error = parse_duration(" \n\t\n").expect_err(&rt, "it is empty");
-    assert_eq!(rt; format!(in rt.alloc(); "{error:#}")?.as_str(), "value was empty");
-    assert_eq!(rt; error.report(" \n\t\n").to_string(rt.alloc())?.as_str(), "line 1: value was empty\n   \n  ^");
-    let tabs = "\t".repeat(rt.alloc(), 1 << 20)?;
-    let text = format!(in rt.alloc(); "1h\n2{tabs}x\n3h")?;
-    let report = parse_duration(&text).expect_err(&rt, "no such unit").report(&text).to_string(rt.alloc())?;
-    let lines = format!(in rt.alloc(); "\n  2{tabs}x\n   {tabs}^")?;
-    assert!(rt; report.starts_with("line 2: unknown time unit \"x\"") && report.ends_with(lines.as_str()));
-    assert_eq!(rt; StdDuration::from_secs(20).checked_div(3), Some(StdDuration::new(6, 666_666_666)));
-    Ok(())
-}
-
 #[test]
 fn long_texts_have_their_places(rt: HostRuntime) -> Result<(), Fail> {
     let (hours, digits) = ("1 h ".repeat(rt.alloc(), 1 << 14)?, "0123456789abcdef".repeat(rt.alloc(), 1 << 16)?);

@@ -1,71 +1,80 @@
 -- A caret line stands under its part.
-use Rattle.humantime.proofs.Prelude.{◌≡◌, ◌+◌, ◌<◌, ◌⊎◌, ℕ, zero, suc, true, false, List, [], ◌∷◌, ◌++◌, length, map, replicate, refl, ap, ◌∙◌, inl, inr, arith, All, Bool, Option, None, Some, codes, decimal, if◌then◌else◌, nat_lt, option_map, slice_range, take, unwrap_or, before_first, join_with_byte, list_all, slice_split, length-replicate, length-slice_split, slice_split_at, slice_split_none, chars-IsAscii, is_in_range}
+use Rattle.humantime.proofs.Prelude.{◌≡◌, ◌+◌, ◌<◌, ◌++◌, ◌⊎◌, ◌∙◌, ℕ, List, [], ◌∷◌, All, ap}
+use Rattle.humantime.proofs.Prelude.{append-nil, append_assoc, arith, inl, inr, join_with_byte}
+use Rattle.humantime.proofs.Prelude.{length, length-append, length-replicate, length-slice_split}
+use Rattle.humantime.proofs.Prelude.{map, refl, replicate, slice_split, slice_split_at}
+use Rattle.humantime.proofs.Prelude.{slice_split_none}
+use Rattle.std.proofs.Math.Nat.{add-zero}
 use Rattle.std.proofs.lemmas.List.Elements.{All-append, All-cons, All-nil, All-replicate}
-use Rattle.std.proofs.lemmas.Str.Ascii.{IsAscii-from_all}
-use Rattle.unicode_width.specs.Width.{str_width}
-use Rattle.unicode_width.proofs.Rules.{str_width-printable}
-use Rattle.humantime_std.specs.Carets.{blanks, caret_line, columns, is_line_feed, is_tab, line_number, report_text}
-use Rattle.humantime_uses.specs.CaretColumns.{ShowsRange, StandsUnder, column_of_pieces, line_after, line_before, line_feeds}
+use Rattle.humantime_std.specs.Carets.{blanks, caret_line, columns, is_tab}
+use Rattle.humantime_uses.specs.CaretColumns.{StandsUnder, column_after, column_of_pieces}
+use Rattle.humantime_uses.proofs.Printable.{HasNoTab, columns_of_printable, printable_append}
+use Rattle.humantime_uses.proofs.Printable.{printable_no_tab, printable_replicate}
 
-printable : (n : ℕ) → list_all (is_in_range 0x20 0x7E) (replicate n 32) ≡ true
-printable zero = refl
-printable (suc n) = printable n
+-- A tab leads from the column after a piece to the next tab stop.
+column_of_next : (stop : ℕ → ℕ) (column : ℕ) (piece : List ℕ) (pieces : List (List ℕ))
+    → 0 < length pieces
+    → column_of_pieces stop column (piece ∷ pieces)
+    ≡ column_of_pieces stop (stop (column + columns piece)) pieces
+column_of_next stop column piece [] some = absurd (omega arith)
+column_of_next stop column piece (next ∷ pieces) some = refl
 
--- A space has one column.
-columns_of_spaces : (n : ℕ) → columns (replicate n 32) ≡ n
-columns_of_spaces n =
-    let ascii = IsAscii-from_all (replicate n 32) (All-replicate (λ b. b < 128) n 32 (omega arith)) in
-    ap (str_width false) (chars-IsAscii (replicate n 32) ascii) ∙ str_width-printable false (replicate n 32) (printable n) ∙ length-replicate n 32
+-- The same of a text, whose piece ends at its first tab.
+pub column_after_tab : (stop : ℕ → ℕ) (column : ℕ) (piece rest : List ℕ) → HasNoTab piece
+    → column_after stop column (piece ++ 9 ∷ rest)
+    ≡ column_after stop (stop (column + columns piece)) rest
+column_after_tab stop column piece rest no_tab =
+    let pieces = slice_split is_tab rest in
+    ap (column_of_pieces stop column) (slice_split_at is_tab piece 9 rest no_tab refl)
+    ∙ column_of_next stop column piece pieces (omega (arith, length-slice_split is_tab rest))
 
 abbrev spaces : List ℕ → List ℕ
 spaces piece = replicate (columns piece) 32
 
+-- Spaces lead as far as the pieces that have as many columns, and each caret one column farther.
+column_of_spaces : (stop : ℕ → ℕ) (column n : ℕ) (pieces : List (List ℕ)) → 0 < length pieces
+    → column_after stop column (join_with_byte 9 (map spaces pieces) ++ replicate n 94)
+    ≡ column_of_pieces stop column pieces + n
+column_of_spaces stop column n [] some = absurd (omega arith)
+column_of_spaces stop column n (p ∷ []) some =
+    let text = spaces p ++ replicate n 94 in
+    let first = printable_replicate (columns p) 32 refl in
+    let last = printable_replicate n 94 refl in
+    let pass = printable_append (spaces p) (replicate n 94) first last in
+    let long : length text ≡ columns p + n = simp (length-append, length-replicate) in
+    rw (slice_split_none is_tab text (printable_no_tab text pass), columns_of_printable text pass)
+    (omega arith)
+column_of_spaces stop column n (p ∷ q ∷ ps) some =
+    let pass = printable_replicate (columns p) 32 refl in
+    let no_tab = printable_no_tab (spaces p) pass in
+    let size = length-replicate (columns p) 32 in
+    let long : columns (spaces p) ≡ columns p = columns_of_printable (spaces p) pass ∙ size in
+    rw (append_assoc, column_after_tab stop column (spaces p) _ no_tab, long)
+    (column_of_spaces stop (stop (column + columns p)) n (q ∷ ps) (omega arith))
+
+-- Blanks lead as far as the part of the line above them, and each caret one column farther.
+pub column_of_carets : (stop : ℕ → ℕ) (column n : ℕ) (before : List ℕ)
+    → column_after stop column (blanks before ++ replicate n 94)
+    ≡ column_after stop column before + n
+column_of_carets stop column n before =
+    let pieces = slice_split is_tab before in
+    column_of_spaces stop column n pieces (omega (arith, length-slice_split is_tab before))
+
 abbrev IsBlank : ℕ → Type 0
 IsBlank b = (b ≡ 32) ⊎ (b ≡ 9)
-
--- The pieces between the tabs of a joined line are those that were joined, if they are spaces.
-split_joined : (pieces : List (List ℕ)) → 0 < length pieces → slice_split is_tab (join_with_byte 9 (map spaces pieces)) ≡ map spaces pieces
-split_joined [] some = absurd (omega arith)
-split_joined (p ∷ []) some = slice_split_none is_tab (spaces p) (All-replicate (λ b. is_tab b ≡ false) (columns p) 32 refl)
-split_joined (p ∷ q ∷ ps) some =
-    slice_split_at is_tab (spaces p) 9 (join_with_byte 9 (map spaces (q ∷ ps))) (All-replicate (λ b. is_tab b ≡ false) (columns p) 32 refl) refl
-    ∙ ap (λ rest. spaces p ∷ rest) (split_joined (q ∷ ps) (omega arith))
-
--- Pieces of spaces lead to the column to which the pieces lead that have as many columns.
-same_column : (stop : ℕ → ℕ) (column : ℕ) (pieces : List (List ℕ)) → column_of_pieces stop column (map spaces pieces) ≡ column_of_pieces stop column pieces
-same_column stop column [] = refl
-same_column stop column (p ∷ []) = ap (λ n. column + n) (columns_of_spaces (columns p))
-same_column stop column (p ∷ q ∷ ps) =
-    ap (λ n. column_of_pieces stop (stop (column + n)) (map spaces (q ∷ ps))) (columns_of_spaces (columns p)) ∙ same_column stop (stop (column + columns p)) (q ∷ ps)
 
 joined_blank : (pieces : List (List ℕ)) → All IsBlank (join_with_byte 9 (map spaces pieces))
 joined_blank [] = All-nil IsBlank
 joined_blank (p ∷ []) = All-replicate IsBlank (columns p) 32 (inl refl)
-joined_blank (p ∷ q ∷ ps) = All-append IsBlank (spaces p) _ (All-replicate IsBlank (columns p) 32 (inl refl)) (All-cons IsBlank 9 _ (inr refl) (joined_blank (q ∷ ps)))
+joined_blank (p ∷ q ∷ ps) =
+    let rest = All-cons IsBlank 9 _ (inr refl) (joined_blank (q ∷ ps)) in
+    All-append IsBlank (spaces p) _ (All-replicate IsBlank (columns p) 32 (inl refl)) rest
 
+-- The carets of a line stand under its part.
 pub stands_under : (before part : List ℕ) → StandsUnder before part (caret_line before part)
-stands_under before part =
-    let pieces = slice_split is_tab before in
-    let split : slice_split is_tab (blanks before) ≡ map spaces pieces = split_joined pieces (omega (arith, length-slice_split is_tab before)) in
-    record {
-      blanks = blanks before;
-      whole = refl;
-      blank = joined_blank pieces;
-      begins = λ stop column. ap (column_of_pieces stop column) split ∙ same_column stop column pieces;
-    }
-
--- The text before a message is empty, or has the number of the line.
-numbered_text : (several : Bool) (n : ℕ) → unwrap_or (option_map (λ k. codes "line " ++ (decimal k ++ codes ": ")) (if several then Some n else None)) []
-    ≡ (if several then codes "line " ++ (decimal n ++ codes ": ") else [])
-numbered_text true n = refl
-numbered_text false n = refl
-
--- A report shows a range, if its parts are those of the line of the range.
-pub shows_range : (text message lines before part rest : List ℕ) (number : Option ℕ) (start end : ℕ) → number ≡ line_number text start
-    → (before ≡ line_before text start) × (part ≡ before_first is_line_feed (slice_range text start end)) × (rest ≡ line_after text start)
-    → lines ≡ report_text number message before rest part → ShowsRange text message start end lines
-shows_range text message lines before part rest number start end numbered is whole = record {
-  carets = caret_line before part;
-  under = rw (← is.0, ← is.1) (stands_under before part);
-  whole = rw (← numbered_text (nat_lt 0 (line_feeds text)) (line_feeds (take start text) + 1), ← numbered, ← is.0, ← is.2) whole;
+stands_under before part = record {
+  blanks = blanks before;
+  whole = refl;
+  blank = joined_blank (slice_split is_tab before);
+  begins = λ stop column. simp (append-nil, add-zero) at (column_of_carets stop column 0 before);
 }

@@ -1,7 +1,11 @@
 pub mod CaretColumns
 pub mod Kept
 pub mod LimitFacts
+pub mod LineWidths
 pub mod LocatedFacts
+pub mod Printable
 pub mod RowFacts
+pub mod ShownLines
 pub mod TextFacts
 pub mod TimestampFacts
+pub mod Widths

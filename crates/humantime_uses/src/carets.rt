@@ -15,7 +15,7 @@ use std::fmt::Display;
 pub type Lines = Result<String, AllocError>;
 
 /// Returns the report of an error, if there is one: what is wrong, the line, and below it carets under the bytes of the error.
-#[tactic(auto, using(crate::proofs::CaretColumns::shows_range))]
+#[tactic(auto, using(crate::proofs::ShownLines::shows_range))]
 pub fn lines_of<T: Drop, E: Display + Drop>(
     alloc: Global,
     text: &str,

@@ -4,6 +4,7 @@ ghost use Rattle.std.specs.Prelude.{◌≡◌, ◌≢◌, ◌+◌, ◌*◌, ◌/
 ghost use Rattle.std.specs.Time.{FitsClock, instant_nanos};
 ghost use Rattle.humantime.specs.Prelude.{Fault, duration_answer, fault_of, moment_end, place_of};
 ghost use Rattle.humantime_std.specs.Located.{IsFaultRange, IsRangeIn, weak_error};
+ghost use Rattle.humantime_uses.specs.CaretColumns.{part_of_line};
 ghost use Rattle.humantime_std.specs.Schedule.{IsDue, IsNextRun};
 
 use humantime::{DurationError, StdDuration, SystemTime};
@@ -88,12 +89,13 @@ pub fn share(part: StdDuration, whole: StdDuration) -> Option<u128>
     (part.as_nanos() * 100).checked_div(whole.as_nanos())
 }
 
-/// Returns the part of a string that is wrong by the error of the weak parser, or `None` if there is no error.
+/// Returns the part of a line that is wrong by the error of the weak parser, or `None` if there is no
+/// error.
 pub fn wrong_part(text: &str) -> Option<&str>
-    ensures { option_map (λ part. part.now) result ≡ option_map (λ error. slice_range text.now error.start error.end) (weak_error text.now) }
+    ensures { option_map (λ part. part.now) result ≡ option_map (part_of_line text.now) (weak_error text.now) }
 {
     let error = parse_rfc3339_weak(text).err()?;
-    Some(error.underline(text).part)
+    Some(error.marked_line(text).part)
 }
 
 /// Returns the offset of an error, if it has one.
