@@ -9,7 +9,8 @@ from copies import CRATES, read
 IMPL = re.compile(r"impl(?:<[^>]*>)? ((?:(?:\w+::)*(\w+)(?:<.*>)? for )?(\w+))")
 ITEM = re.compile(r" *(pub )?(?:pub\(\w+\) )?(?:unsafe |const (?=fn ))?(const|enum|fn|struct|trait) (\w+)")
 # The libraries, each with the order of its modules. Those that are not named follow in alphabetical order.
-LIBRARIES = {"humantime": ["duration", "date", "value", "wrapper", "calendar", "laws"], "humantime_std": [], "humantime_settings": []}
+LIBRARIES = {"humantime": ["duration", "date", "value", "wrapper", "calendar", "laws"]}
+LIBRARIES |= {"humantime_std": [], "humantime_settings": [], "humantime_clap": []}
 LINK = r"\[(`[^`]*`)\](?:\([^)]*\))?"
 
 
@@ -93,7 +94,7 @@ def public_items():
     for crate, order in LIBRARIES.items():
         found = {module: [*items(text)] for module, text in files(crate, "src")}
         exported = re.findall(r"\w+", " ".join(re.findall(r"^pub (?:use [\w:]+::|mod )([^;]*);", read(CRATES, crate, "src/lib.rt"), re.M)))
-        shown = {module: [item for item in here if item.is_public and not item.owner and {item.name, module} & {*exported}]
+        shown = {module: [item for item in here if item.is_public and not item.owner and {item.name, module} & {*exported, "lib"}]
                  for module, here in found.items()}
         made += f"\n## The crate `{crate}`\n"
         for top, modules in groupby(sorted(filter(shown.get, shown), key=lambda name: [*order, of_top(name)].index(of_top(name))), of_top):
