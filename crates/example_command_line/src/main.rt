@@ -6,11 +6,10 @@
 use clap::error::ErrorKind;
 use clap::{Command, Error, arg};
 use humantime::{Duration, Timestamp};
-use humantime_std::Located;
+use humantime_clap::{optional_value_of, value_of};
 use humantime_std::located::{parse_duration, parse_rfc3339_weak};
 use std::alloc::{AllocError, Global};
 use std::env;
-use std::fmt::Display;
 use std::io::{self, Write};
 use std::process::ExitCode;
 
@@ -60,37 +59,14 @@ pub fn run(
 pub fn options_of(alloc: Global, words: &[String]) -> Result<Options, Error> {
     let mut command = command(alloc)?;
     let matches = command.try_get_matches_from_mut(words)?;
-    let text = matches.get_str("timeout").unwrap_or("");
-    let timeout = value_of(alloc, &mut command, "timeout", text, parse_duration(text))?;
-    let text = matches.get_str("window").unwrap_or("");
-    let window = value_of(alloc, &mut command, "window", text, parse_duration(text))?;
-    let since = match matches.get_str("since") {
-        Some(text) => Some(value_of(alloc, &mut command, "since", text, parse_rfc3339_weak(text))?),
-        None => None,
-    };
+    let timeout = value_of(alloc, &mut command, &matches, "timeout", parse_duration)?;
+    let window = value_of(alloc, &mut command, &matches, "window", parse_duration)?;
+    let since = optional_value_of(alloc, &mut command, &matches, "since", parse_rfc3339_weak)?;
     Ok(Options {
         timeout: Duration::new(timeout),
         window: Duration::new(window),
         since: since.map(|time| Timestamp::from(time)),
     })
-}
-
-/// Returns the value of an option, or an error with its name, what is wrong with its string, and carets under that. A value parser of
-/// `clap` cannot return such an error.
-fn value_of<T, E: Display + Drop>(
-    alloc: Global,
-    command: &mut Command<'_>,
-    name: &str,
-    text: &str,
-    parsed: Result<T, Located<E>>,
-) -> Result<T, Error> {
-    match parsed {
-        Ok(value) => Ok(value),
-        Err(error) => {
-            let message = format!(in alloc; "--{name}: {}", error.report(text))?;
-            Err(command.error(ErrorKind::ValueValidation, &message)?)
-        }
-    }
 }
 
 /// Creates the command. A duration may begin with a hyphen, so that the library says what is wrong with `-1s`.
