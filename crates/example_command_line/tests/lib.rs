@@ -42,6 +42,7 @@ fn each_stream_is_written(rt: HostRuntime) -> Result<(), Fail> {
 fn a_wrong_value_is_marked(rt: HostRuntime) -> Result<(), Fail> {
     for (words, message) in &[
         (["--window", "-1s"], "error: --window: expected number at 0\n  -1s\n  ^\n"),
+        (["--timeout", "-1s"], "error: --timeout: expected number at 0\n  -1s\n  ^\n"),
         (["--timeout", "5µs x"], "error: --timeout: expected number at 5\n  5µs x\n      ^\n"),
         (["--timeout", ""], "error: --timeout: value was empty\n  \n  ^\n"),
         (["--timeout", "1h 2parsecs"], "error: --timeout: unknown time unit \"parsecs\", supported units: ns, us/µs, ms, sec, min, hours, days, weeks, months, years (and few variations)\n  1h 2parsecs\n      ^^^^^^^\n"),

@@ -5,19 +5,16 @@
 //! The exit status is 0, or 2 for wrong arguments, or 1 if reading or writing fails or an allocation fails.
 #![tactic(auto)]
 
-use humantime::{SystemTime, TimestampError, parse_rfc3339_weak};
-use humantime_std::{Located, located};
+use humantime::{SystemTime, TimestampError};
+use humantime_std::{Located, located, split_leading_time};
 use std::alloc::Global;
+use std::env;
 use std::io::{self, BufRead, BufReader, BufWriter, Read, Write};
 use std::ops::Range;
 use std::process::ExitCode;
-use std::{env, str};
 
 /// The most bytes of a line that are in memory. A longer line is copied in pieces.
 const PIECE: u64 = 65_536;
-
-/// The length of a date and the byte after it, which may be a space.
-const DATE: usize = 11;
 
 fn main(rt: HostRuntime) -> io::Result<ExitCode> {
     let words = env::args(&rt)?.skip(1).collect::<Vec<String>>(rt.alloc())?;
@@ -77,8 +74,12 @@ fn copy_lines<R: BufRead, W: Write>(
         if log.by_ref().take(PIECE).read_until(b'\n', &mut piece)? == 0 {
             break;
         }
-        if is_first && let Some(time) = time_of(&piece) {
-            is_kept = range.contains(&time);
+        if is_first {
+            // What is not UTF-8 becomes U+FFFD, which is in no timestamp.
+            let text = String::from_utf8_lossy(alloc, &piece)?;
+            if let Some((time, _)) = split_leading_time(&text) {
+                is_kept = range.contains(&time);
+            }
         }
         if is_kept {
             out.write_all(&piece)?;
@@ -86,12 +87,4 @@ fn copy_lines<R: BufRead, W: Write>(
         is_first = piece.ends_with(b"\n");
     }
     out.flush()
-}
-
-/// Returns the time of the timestamp at the front of a line, or `None` if there is none.
-fn time_of(line: &[u8]) -> Option<SystemTime> {
-    let rest = line.get(DATE..)?;
-    let end = rest.iter().position(|byte| byte.is_ascii_whitespace());
-    let stamp = line.get(..DATE + end.unwrap_or(rest.len()))?;
-    parse_rfc3339_weak(str::from_utf8(stamp).ok()?).ok()
 }

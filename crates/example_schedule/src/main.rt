@@ -105,8 +105,8 @@ fn write_next(out: &mut impl Write, job: Job<'_>, now: SystemTime) -> io::Result
     }
 }
 
-/// Writes what [`write_runs`] writes for the words FILE, NOW and RETRY, and what the file contains, or what is wrong with them. Returns the
-/// exit status.
+/// Writes what [`write_runs`] writes for the words FILE, NOW and RETRY, and what the file contains,
+/// or what is wrong with the first wrong one. Returns the exit status.
 pub fn run(
     words: &[String],
     file: io::Result<String>,

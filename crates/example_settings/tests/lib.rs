@@ -61,6 +61,11 @@ fn settings_or_the_error_are_written(rt: HostRuntime) -> Result<(), Fail> {
         ("60s", "60s", CANONICAL, ""),
         ("60s", "60", "", "a.toml: line 3, column 24: time unit needed, for example 60sec or 60ms\nretries = ['500ms', '60']\n                       ^\n"),
         ("every", "evry", "", "a.toml: line 6, column 1: unknown field `evry`, expected one of `every`, `since`, `keep`, `target`\nevry = '36h'\n^\n"),
+        ("retries =", "retry = 3\nretries =", "",
+            "a.toml: line 3, column 1: unknown field `retry`, expected one of `timeout`, \
+            `retries`, `backup`, `breaks`\nretry = 3\n^\n"),
+        ("retries = ['500ms', '60s']\n", "", "",
+            "a.toml: line 1, column 1: missing field `retries`\n# 90 seconds\n^\n"),
         ("server", "sever", "", "a.toml: line 9, column 19: unknown variant `sever`, expected `directory` or `server`\ntarget = { kind = 'sever', address = '10.0.0.7', timeout = '5s' }\n                  ^\n"),
         ("'5s'", "5", "", "a.toml: line 9, column 61: expected a duration in quotes\ntarget = { kind = 'server', address = '10.0.0.7', timeout = 5 }\n                                                            ^\n"),
     ] {
@@ -70,6 +75,27 @@ fn settings_or_the_error_are_written(rt: HostRuntime) -> Result<(), Fail> {
         assert_eq!(rt; status, if err_text.is_empty() { 0 } else { 1 });
         assert_eq!(rt; String::from_utf8(out)?.as_str(), *out_text);
         assert_eq!(rt; String::from_utf8(err)?.as_str(), *err_text);
+    }
+    Ok(())
+}
+
+#[test]
+fn a_backup_may_be_kept_for_ever_and_in_a_directory(rt: HostRuntime) -> Result<(), Fail> {
+    for (part, other, canonical, changed) in &[
+        ("keep = '2weeks'\n", "", "keep = \"14days\"\n", ""),
+        (
+            "'server', address = '10.0.0.7', timeout = '5s'",
+            "'directory', path = '/srv'",
+            "\"server\"\naddress = \"10.0.0.7\"\ntimeout = \"5s\"",
+            "\"directory\"\npath = \"/srv\"",
+        ),
+    ] {
+        let (mut out, mut err) = (Vec::new(rt.alloc()), Vec::new(rt.alloc()));
+        let text = SETTINGS.replace(rt.alloc(), *part, *other)?;
+        let words = words_of(rt.alloc(), &["a.toml"])?;
+        assert_eq!(rt; run(rt.alloc(), &words, Ok(text), &mut out, &mut err)?, 0);
+        let wanted = CANONICAL.replace(rt.alloc(), *canonical, *changed)?;
+        assert_eq!(rt; String::from_utf8(out)?.as_str(), wanted.as_str());
     }
     Ok(())
 }

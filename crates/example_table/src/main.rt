@@ -10,6 +10,7 @@ use std::alloc::{AllocError, Global};
 use std::io::{self, Write};
 use std::process::ExitCode;
 use thiserror::Error;
+use unicode_width::UnicodeWidthStr;
 
 /// A row of the table.
 #[derive(Clone, Copy, Debug)]
@@ -88,18 +89,24 @@ fn marked_line<'a>(line: &'a str, wrong: Wrong<'_>) -> MarkedLine<'a> {
     }
 }
 
-/// Returns the table as a string. A share is a whole number of percent, truncated.
+/// Returns the table as a string. A share is a whole number of percent, truncated. Of several rows
+/// that are the longest, the last one is named.
 fn table_of(alloc: Global, rows: &[Row<'_>], total: StdDuration) -> Result<String, AllocError> {
     let mut width = "longest".len();
     for row in rows {
-        width = width.max(row.name.chars().count());
+        width = width.max(row.name.width());
     }
     let mut table = String::new(alloc);
     for row in rows {
         let share = row.duration.as_nanos() * 100;
         let percent = share.checked_div(total.as_nanos()).unwrap_or(0);
         let duration = format_duration(row.duration);
-        writeln!(table, "{:<width$}  {percent:>3}%  {duration}", row.name)?;
+        let padding = width.saturating_sub(row.name.width());
+        writeln!(
+            table,
+            "{}{:padding$}  {percent:>3}%  {duration}",
+            row.name, ""
+        )?;
     }
     writeln!(
         table,

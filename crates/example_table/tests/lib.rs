@@ -14,6 +14,11 @@ fn a_text_has_a_table_or_a_mark(rt: HostRuntime) -> Result<(), Fail> {
         ("a\t0", 0, "a          0%  0s\ntotal          0s\nmean           0s\nlongest        a\n", ""),
         ("a\t90s\r\n\t0", 0, "a        100%  1m 30s\n           0%  0s\ntotal          1m 30s\nmean           45s\nlongest        a\n", ""),
         ("a\t18446744073709551615s", 0, all_of_it.as_str(), ""),
+        ("a\t1h\nb\t60min\nc\t0", 0, "a         50%  1h\nb         50%  1h\nc          0%  0s\n\
+            total          2h\nmean           40m\nlongest        b\n", ""),
+        ("ダウンロード\t1h\nb\t0", 0, "ダウンロード  100%  1h\nb               0%  0s\n\
+            total               1h\nmean                30m\nlongest             ダウンロード\n", ""),
+        ("a\tb\t1h", 2, "", "example_table: line 1: expected number at 0\na\tb\t1h\n \t^\n"),
         ("a\t1h\nb 2h\nc", 2, "", "example_table: line 2: a tab and a duration are missing\nb 2h\n    ^\n"),
         ("\n", 2, "", "example_table: line 1: a tab and a duration are missing\n\n^\n"),
         ("µs\t", 2, "", "example_table: line 1: value was empty\nµs\t\n  \t^\n"),

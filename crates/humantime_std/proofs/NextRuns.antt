@@ -1,7 +1,11 @@
 -- The next run of a job.
 use Rattle.humantime.proofs.Prelude.{◌≡◌, ◌↔◌, ℕ, zero, suc, ◌+◌, ◌*◌, ◌<◌, ◌≤◌, ℤ, pos, ◌+ℤ◌, ◌≤ℤ◌, ◌<ℤ◌, Option, None, Some, IsNone, IfSome, SomeIff, arith, refl, subst, sym, rules, div_ceil, cases_lt, div_ceil_times, ints, mul-le, row_fits}
+use Rattle.humantime.proofs.Prelude.{◌∙◌}
 use Rattle.humantime.specs.Prelude.{moment_end}
+use Rattle.humantime_std.proofs.Months.{last_month_begins}
 use Rattle.humantime_std.specs.Schedule.{IsDue, IsNextRun}
+use Rattle.humantime_std.specs.Schedule.{BeginsMonth, IsMonthlyDue, IsNextMonthlyRun}
+use Rattle.humantime_std.specs.Schedule.{last_month, midnight}
 
 -- The first run is the next one if there is no gap.
 first_run : (last now : ℤ) (every : ℕ) → now ≤ℤ last → IsNextRun last every now (last +ℤ pos every)
@@ -43,3 +47,45 @@ next_from_gap last now (suc g) (suc e) r first never next early late =
     let ends = div_ceil_times (suc g) (suc e) (omega arith) in
     let whole = run_after_gap last now (suc g) (suc e) _ (div_ceil (suc g) (suc e)) (late (grind (arith, ints, early))) (omega arith) refl ends.0 ends.1 in
     is_answer last now _ (suc e) r whole (next (omega arith) (omega arith))
+
+-- ---- monthly runs
+
+-- The first midnight that is after the last run and not before now.
+pub record IsFirstMidnight (last now : ℤ) (day : ℕ) : Type 0 where
+  pub later : last <ℤ midnight day
+  pub reached : now ≤ℤ midnight day
+  pub least : (n : ℕ) → last <ℤ midnight n → now ≤ℤ midnight n → day ≤ n
+
+-- The first day that begins a month, from a day on.
+pub record IsMonthFrom (day first : ℕ) : Type 0 where
+  pub month : BeginsMonth first
+  pub from : day ≤ first
+  pub least : (n : ℕ) → BeginsMonth n → day ≤ n → first ≤ n
+
+module _ (last now : ℤ) (day first : ℕ) (is : IsFirstMidnight last now day)
+    (from : IsMonthFrom day first) where
+  next_monthly : IsNextMonthlyRun last now (midnight first)
+  next_monthly = record {
+    due = record {
+      day = first;
+      month = from.month;
+      at = refl;
+      later = omega (arith, ints);
+      reached = omega (arith, ints);
+    };
+    first = λ u due.
+        let midnight_from = is.least due.day (omega (arith, ints)) (omega (arith, ints)) in
+        omega (arith, ints, from.least due.day due.month midnight_from);
+  }
+
+  -- The time at which that day begins, if there is one.
+  pub monthly_found : (t : ℤ) (P : Type 0) (r : Option ℤ) → t ≡ midnight first → SomeIff r P t
+      → IfSome r (IsNextMonthlyRun last now)
+  monthly_found t P None at given = tt
+  monthly_found t P (Some x) at given =
+      subst (IsNextMonthlyRun last now) (sym (given.1 ∙ at)) next_monthly
+
+-- No monthly run is due after the start of the last month.
+pub due_in_range : (last now t : ℤ) → IsMonthlyDue last now t
+    → (now ≤ℤ last_month) × (last <ℤ last_month)
+due_in_range last now t due = omega (arith, ints, last_month_begins due.day due.month)

@@ -1,5 +1,8 @@
 -- When a job runs next. A time and a duration are numbers of nanoseconds.
-use Rattle.std.specs.Prelude.{◌≡◌, ◌*◌, ◌≤◌, ◌+ℤ◌, ◌≤ℤ◌, ℕ, ℤ, pos}
+use Rattle.std.specs.Prelude.{◌≡◌, ◌*◌, ◌≤◌, ◌+ℤ◌, ◌≤ℤ◌, ◌<ℤ◌, ℕ, ℤ, pos}
+use Rattle.humantime.specs.Calendar.{IsDate, day_of}
+use Rattle.humantime.specs.Values.{nanos_per_second, seconds_per_day}
+use Rattle.humantime.specs.declared.calendar.Date.{Date}
 
 -- A run is due at the time: it is one or more whole periods after the last run, and not before now.
 pub record IsDue (last : ℤ) (every : ℕ) (now t : ℤ) : Type 0 where
@@ -12,3 +15,32 @@ pub record IsDue (last : ℤ) (every : ℕ) (now t : ℤ) : Type 0 where
 pub record IsNextRun (last : ℤ) (every : ℕ) (now t : ℤ) : Type 0 where
   pub due : IsDue last every now t
   pub first : (u : ℤ) → IsDue last every now u → t ≤ℤ u
+
+-- The day, counted from 1970-01-01, is the first of a month from 1970 to 9999.
+pub record BeginsMonth (day : ℕ) : Type 0 where
+  pub date : Date
+  pub exists : IsDate date
+  pub counted : day_of date ≡ day
+  pub first : date.day ≡ 1
+
+-- The midnight (UTC) at which a day begins.
+abbrev pub midnight : ℕ → ℤ
+midnight day = pos (day * (seconds_per_day * nanos_per_second))
+
+-- 9999-12-01T00:00:00Z, at which the last month begins.
+abbrev pub last_month : ℤ
+last_month = midnight 2_932_866
+
+-- A monthly run is due at the time: it is the midnight that begins a month, after the last run, and
+-- not before now.
+pub record IsMonthlyDue (last now t : ℤ) : Type 0 where
+  pub day : ℕ
+  pub month : BeginsMonth day
+  pub at : t ≡ midnight day
+  pub later : last <ℤ t
+  pub reached : now ≤ℤ t
+
+-- The time is the first at which a monthly run is due.
+pub record IsNextMonthlyRun (last now t : ℤ) : Type 0 where
+  pub due : IsMonthlyDue last now t
+  pub first : (u : ℤ) → IsMonthlyDue last now u → t ≤ℤ u

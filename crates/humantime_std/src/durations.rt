@@ -3,6 +3,7 @@
 ghost use Rattle.std.specs.Prelude.{◌≡◌, ◌≢◌, ◌-◌, ◌*◌, ◌/◌, ◌<◌, ◌≤◌, ◌↔◌, ℕ, min, option_map, IsTrue, SomeIff};
 ghost use Rattle.std.specs.Duration.{as_nanos};
 ghost use Rattle.humantime.specs.Prelude.{duration_end, fault_of, place_of};
+ghost use Rattle.humantime_std.specs.Rounding.{nearest_multiple};
 
 use humantime::{DurationError, StdDuration};
 use std::time;
@@ -184,6 +185,27 @@ pub trait StdDurationExt: Sized {
     /// ```
     fn checked_trunc_to(self, step: Self) -> Option<Self>
         ensures { SomeIff (option_map total_nanos result) (total_nanos step ≢ 0) (total_nanos self / total_nanos step * total_nanos step) };
+
+    /// Rounds this duration to the nearest multiple of a step, or up if two are equally near, or
+    /// returns `None` if the step is zero or that multiple is longer than `MAX`.
+    ///
+    /// # Examples
+    ///
+    /// ```
+    /// use humantime::{StdDuration, parse_duration};
+    /// use humantime_std::StdDurationExt;
+    ///
+    /// let step = parse_duration("1s")?;
+    /// let (below, half) = (parse_duration("62s 499ms")?, parse_duration("62s 500ms")?);
+    /// assert_eq!(rt; below.checked_round_to(step), Some(parse_duration("62s")?));
+    /// assert_eq!(rt; half.checked_round_to(step), Some(parse_duration("63s")?));
+    /// assert_eq!(rt; half.checked_round_to(StdDuration::ZERO), None);
+    /// assert_eq!(rt; StdDuration::MAX.checked_round_to(step), None);
+    /// ```
+    fn checked_round_to(self, step: Self) -> Option<Self>
+        ensures { let nanos = nearest_multiple (total_nanos step) (total_nanos self) in
+            SomeIff (option_map total_nanos result)
+            ((total_nanos step ≢ 0) × (nanos < duration_end)) nanos };
 }
 
 impl StdDurationExt for StdDuration {
@@ -252,6 +274,16 @@ impl StdDurationExt for StdDuration {
     {
         let steps = self.as_nanos().checked_div(step.as_nanos())?;
         StdDuration::checked_from_nanos_u128(steps * step.as_nanos())
+    }
+
+    #[tactic(auto, using(crate::proofs::Multiples::half_added))]
+    fn checked_round_to(self, step: StdDuration) -> Option<StdDuration>
+        ensures { let nanos = nearest_multiple step self in
+            SomeIff result ((step ≢ 0) × (nanos < duration_end)) nanos }
+    {
+        let step = step.as_nanos();
+        let steps = (self.as_nanos() + step / 2).checked_div(step)?;
+        StdDuration::checked_from_nanos_u128(steps * step)
     }
 }
 

@@ -1,5 +1,6 @@
-//! `humantime` with std's `Duration`, `SystemTime` and `Instant`: conversions, the current time, sleep, deadlines, differences, the next
-//! run of a job, and parsers whose errors have a position ([`located`]).
+//! `humantime` with std's `Duration`, `SystemTime` and `Instant`: conversions, the current time,
+//! sleep, deadlines, differences, the next run of a job, the time of a line of a log, and parsers
+//! whose errors have a position ([`located`]).
 //!
 //! The crate stands beside the port of the Rust crate `humantime`, which does not use it. A parameter `clock` takes the runtime, as `&rt`.
 //!
@@ -20,9 +21,11 @@
 mod clocks;
 mod durations;
 pub mod located;
+mod logs;
 mod times;
 
 pub use clocks::{deadline, elapsed, now, sleep, time_left};
 pub use durations::{StdDurationExt, error_offset, next_delay};
 pub use located::{Escaped, Located, MarkedLine, Report};
-pub use times::{SystemTimeExt, next_run};
+pub use logs::split_leading_time;
+pub use times::{SystemTimeExt, next_monthly_run, next_run};

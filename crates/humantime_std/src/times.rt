@@ -1,16 +1,22 @@
 //! Times of std, a time minus a duration, and the next run of a job.
 
 ghost use Rattle.std.specs.Prelude.{◌≡◌, ◌+◌, ◌*◌, ◌<◌, ◌↔◌, ◌+ℤ◌, ◌-ℤ◌, ◌≤ℤ◌, ◌<ℤ◌, ℤ, Some, pos, neg_ℤ, option_map, IfSome, IsNone, IsSome, SomeIff};
+ghost use Rattle.std.specs.Prelude.{◌≤◌, ℕ};
 ghost use Rattle.std.specs.Int.{div_ceil};
 ghost use Rattle.std.specs.Time.{FitsClock, system_time_nanos};
-ghost use Rattle.humantime.specs.Prelude.{moment_end};
+ghost use Rattle.humantime.specs.Prelude.{moment_end, IsDate};
 ghost use Rattle.humantime_std.specs.Schedule.{IsDue, IsNextRun};
+ghost use Rattle.humantime_std.specs.Schedule.{BeginsMonth, IsNextMonthlyRun, last_month, midnight};
 
 use crate::durations::StdDurationExt;
-use humantime::{StdDuration, SystemTime, UNIX_EPOCH};
+use humantime::{Date, StdDuration, SystemTime, Turns, UNIX_EPOCH, date_of_day, day_number};
 use std::time;
 
 const NANOS_PER_SECOND: u32 = 1_000_000_000;
+
+const SECONDS_PER_DAY: u64 = 86_400;
+
+const NANOS_PER_DAY: u128 = 86_400_000_000_000;
 
 /// Methods of std's `SystemTime` that [`SystemTime`] does not have, and conversions from and to it.
 ///
@@ -150,4 +156,88 @@ fn run_after(last: SystemTime, gap: StdDuration, every: StdDuration) -> Option<S
         _ => gap.div_ceil(every) * every,
     };
     last.checked_add(StdDuration::checked_from_nanos_u128(wait)?)
+}
+
+/// Returns when a job that runs on the first of each month runs next: the first midnight (UTC) that
+/// begins a month, is after `last` and is not before `now`, or `None` if `now` is before 1970 or
+/// after 9999-12-01T00:00:00Z, or if `last` is not before that.
+///
+/// If the job has not run yet, `last` is the time at which it was added.
+///
+/// # Examples
+///
+/// ```
+/// use humantime::parse_rfc3339;
+/// use humantime_std::next_monthly_run;
+///
+/// let last = parse_rfc3339("2018-12-01T00:00:00Z")?;
+/// let now = parse_rfc3339("2018-12-31T23:59:59Z")?;
+/// let next = parse_rfc3339("2019-01-01T00:00:00Z")?;
+/// assert_eq!(rt; next_monthly_run(last, now), Some(next));
+/// assert_eq!(rt; next_monthly_run(last, next), Some(next));
+/// assert_eq!(rt; next_monthly_run(next, next), Some(parse_rfc3339("2019-02-01T00:00:00Z")?));
+/// assert_eq!(rt; next_monthly_run(last, parse_rfc3339("9999-12-01T00:00:01Z")?), None);
+/// ```
+pub fn next_monthly_run(last: SystemTime, now: SystemTime) -> Option<SystemTime>
+    ensures next { IfSome result (IsNextMonthlyRun last now) }
+    ensures within { IsSome result
+        ↔ ((pos 0 ≤ℤ now) × (now ≤ℤ last_month) × (last <ℤ last_month)) }
+{
+    let day = month_start(first_midnight(last, now)?)?;
+    UNIX_EPOCH.checked_add(StdDuration::from_secs(u64::from(day) * SECONDS_PER_DAY))
+}
+
+/// Returns the day of the first midnight that is after `last` and not before `now`, or `None` if
+/// `now` is before 1970. Days are counted from 1970-01-01.
+#[tactic(auto, using(std::proofs::lemmas::Grind::div_ceil_times, std::proofs::lemmas::Int::ints))]
+fn first_midnight(last: SystemTime, now: SystemTime) -> Option<u128>
+    ensures within { IsSome result ↔ (pos 0 ≤ℤ now) }
+    ensures later { IfSome result (λ day. last <ℤ midnight day) }
+    ensures reached { IfSome result (λ day. now ≤ℤ midnight day) }
+    ensures first { (n : ℕ) → last <ℤ midnight n → now ≤ℤ midnight n
+        → IfSome result (λ day. day ≤ n) }
+{
+    let now = now.duration_since(UNIX_EPOCH).ok()?.as_nanos();
+    let after_last = match last.duration_since(UNIX_EPOCH) {
+        Ok(since) => since.as_nanos() / NANOS_PER_DAY + 1,
+        Err(_) => 0,
+    };
+    Some(now.div_ceil(NANOS_PER_DAY).max(after_last))
+}
+
+/// Returns the first day not before `day` that begins a month, or `None` after 9999-12-01. Days are
+/// counted from 1970-01-01.
+fn month_start(day: u128) -> Option<u32>
+    ensures within { IsSome result ↔ (day ≤ 2_932_866) }
+    ensures month { IfSome result BeginsMonth }
+    ensures from { IfSome result (λ first. day ≤ first) }
+    ensures first { (n : ℕ) → BeginsMonth n → day ≤ n → IfSome result (λ first. first ≤ n) }
+{
+    let mut turns = Turns::new();
+    let date = date_of_day(u32::try_from(day).ok()?, &mut turns)?;
+    day_number(first_from(date), &mut turns)
+}
+
+/// Returns a date if it is the first of its month, or else the first of the next month.
+fn first_from(date: Date) -> Date
+    requires { IsDate date }
+    ensures same { date.day ≡ 1 → result ≡ date }
+    ensures month { 1 < date.day → date.month < 12
+        → result ≡ record date { month = date.month + 1; day = 1 } }
+    ensures year { 1 < date.day → date.month ≡ 12
+        → result ≡ record { year = date.year + 1; month = 1; day = 1 } }
+{
+    match (date.month, date.day) {
+        (_, 1) => date,
+        (12, _) => Date {
+            year: date.year + 1,
+            month: 1,
+            day: 1,
+        },
+        (month, _) => Date {
+            month: month + 1,
+            day: 1,
+            ..date
+        },
+    }
 }

@@ -3,7 +3,9 @@ pub mod Kept
 pub mod LimitFacts
 pub mod LineWidths
 pub mod LocatedFacts
+pub mod LogFacts
 pub mod Printable
+pub mod RoundingFacts
 pub mod RowFacts
 pub mod ShownLines
 pub mod TextFacts

@@ -6,7 +6,7 @@ ghost use Rattle.humantime.specs.Prelude.{AreItems, Fault, IsTiled, PointsInto, 
 ghost use Rattle.humantime_uses.specs.SpanItems.{longest_of};
 
 use humantime::laws::spans_tile;
-use humantime::{DurationError, SpanIter, StdDuration, parse_duration, spans};
+use humantime::{DurationError, Span, SpanIter, StdDuration, parse_duration, spans};
 
 /// Returns the longest span of a string, each span parsed on its own, or zero if no span is a duration.
 pub fn longest_span(text: &str) -> StdDuration
@@ -30,7 +30,7 @@ pub fn next_parts<'a>(items: &mut SpanIter<'a>) -> Option<Result<Parts<'a>, Dura
     ensures error { IfSome result (λ item. IfErr item (λ e. PointsInto (text_of items.old) e × (items_left items.old ≡ Err (fault_of e) ∷ items_left items.new))) }
     ensures text { text_of items.new ≡ text_of items.old }
 {
-    let span = match items.next()? {
+    let span: Span<'a> = match items.next()? {
         Ok(span) => span,
         Err(error) => return Some(Err(error)),
     };

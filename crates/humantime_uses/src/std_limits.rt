@@ -1,16 +1,19 @@
 //! Callers of `humantime_std`, whose results are known up to the limits of the types.
 
 ghost use Rattle.std.specs.Prelude.{◌≡◌, ◌≢◌, ◌+◌, ◌*◌, ◌/◌, ◌%◌, ◌<◌, ◌≤◌, ◌⊎◌, ◌↔◌, ◌+ℤ◌, ◌≤ℤ◌, ℤ, chars, pos, slice_range, option_map, Err, IfSome, IsNone, IsOk, IsTrue, Some, SomeIff};
+ghost use Rattle.std.specs.Prelude.{ℕ};
 ghost use Rattle.std.specs.Time.{FitsClock, instant_nanos};
 ghost use Rattle.humantime.specs.Prelude.{Fault, duration_answer, fault_of, moment_end, place_of};
+ghost use Rattle.humantime.specs.Prelude.{duration_end};
 ghost use Rattle.humantime_std.specs.Located.{IsFaultRange, IsRangeIn, weak_error};
+ghost use Rattle.humantime_std.specs.Schedule.{IsDue, IsNextRun, IsMonthlyDue, IsNextMonthlyRun};
 ghost use Rattle.humantime_uses.specs.CaretColumns.{part_of_line};
-ghost use Rattle.humantime_std.specs.Schedule.{IsDue, IsNextRun};
 
 use humantime::{DurationError, StdDuration, SystemTime};
 use humantime_std::located::{self, parse_rfc3339_weak};
 use humantime_std::{
-    StdDurationExt, SystemTimeExt, deadline, error_offset, next_delay, next_run, time_left,
+    StdDurationExt, SystemTimeExt, deadline, error_offset, next_delay, next_monthly_run, next_run,
+    time_left,
 };
 use std::time::Instant;
 
@@ -62,6 +65,31 @@ pub fn wait_for(last: SystemTime, every: StdDuration, now: SystemTime) -> Option
     next_run(last, every, now)?.duration_since(now).ok()
 }
 
+/// Returns how long to wait for the next monthly run of a job, or `None` if no midnight before the
+/// year 10000 is a time at which one is due, or if `now` is before 1970.
+pub fn wait_for_month(last: SystemTime, now: SystemTime) -> Option<StdDuration>
+    ensures next { IfSome result (λ wait. IsNextMonthlyRun last now (now +ℤ pos wait)) }
+    ensures none { IsNone result → pos 0 ≤ℤ now → (t : ℤ) → ¬ (IsMonthlyDue last now t) }
+{
+    next_monthly_run(last, now)?.duration_since(now).ok()
+}
+
+/// Returns the delay before one more try, `factor` times as long as the one before it, but not
+/// longer than `most`.
+pub fn grown(delay: StdDuration, factor: u64, most: StdDuration) -> StdDuration
+    ensures within { delay * factor ≤ most → result ≡ delay * factor }
+    ensures most { most ≤ delay * factor → result ≡ most }
+{
+    next_delay(delay, factor, most)
+}
+
+/// Returns the delay before one more try if the factor is zero, which is no delay at all.
+pub fn vanished(delay: StdDuration, most: StdDuration) -> StdDuration
+    ensures { result ≡ 0 }
+{
+    next_delay(delay, 0, most)
+}
+
 /// Returns the delay before one more try, twice as long as the one before it, but not longer than `most`.
 pub fn doubled(delay: StdDuration, most: StdDuration) -> StdDuration
     ensures most { result ≤ most }
@@ -80,6 +108,21 @@ pub fn split_at_step(duration: StdDuration, step: StdDuration) -> Option<(StdDur
 {
     let whole = duration.checked_trunc_to(step)?;
     Some((whole, duration.saturating_sub(whole)))
+}
+
+/// Returns the multiple of a step that is nearest to a duration, or of two the one above it, or
+/// `None` if it is longer than any duration or the step is zero.
+#[tactic(auto, using(crate::proofs::RoundingFacts::nearest_facts))]
+pub fn nearest(duration: StdDuration, step: StdDuration) -> Option<StdDuration>
+    ensures multiple { IfSome result (λ near. near % step ≡ 0) }
+    ensures above { IfSome result (λ near. near * 2 ≤ duration * 2 + step) }
+    ensures below { IfSome result (λ near. duration * 2 < near * 2 + step) }
+    ensures tie { (k : ℕ) → duration * 2 ≡ k * step * 2 + step
+        → IfSome result (λ near. near ≡ (k + 1) * step) }
+    ensures none { IsNone result → step ≢ 0
+        → (k : ℕ) → duration * 2 < k * step * 2 + step → duration_end ≤ k * step }
+{
+    duration.checked_round_to(step)
 }
 
 /// Returns how many percent of a whole a part is, rounded down, or `None` if the whole is zero.

@@ -4,6 +4,7 @@ ghost use Rattle.std.specs.Prelude.{◌≡◌, ◌≢◌, ◌+◌, ◌-◌, ◌*
 ghost use Rattle.std.specs.Duration.{as_nanos};
 ghost use Rattle.std.specs.Time.{FitsClock, system_time_nanos};
 ghost use Rattle.humantime.specs.Prelude.{duration_end};
+ghost use Rattle.humantime_std.specs.Rounding.{nearest_multiple};
 
 use humantime::StdDuration;
 use humantime_std::{StdDurationExt, SystemTimeExt};
@@ -43,6 +44,15 @@ pub fn whole_steps<D: StdDurationExt + Copy>(duration: D, step: D) -> Option<u12
         return None;
     }
     Some(whole.as_nanos())
+}
+
+/// Returns the nearest multiple of a step in nanoseconds, or `None` if the step is zero, or if no
+/// duration is that long.
+pub fn rounded_nanos<D: StdDurationExt>(duration: D, step: D) -> Option<u128>
+    ensures { let nanos = nearest_multiple (D.total_nanos step) (D.total_nanos duration) in
+        SomeIff result ((D.total_nanos step ≢ 0) × (nanos < duration_end)) nanos }
+{
+    Some(duration.checked_round_to(step)?.as_nanos())
 }
 
 /// Returns `true` if a duration is longer than another by a number of nanoseconds.

@@ -1,14 +1,17 @@
 //! Lines of a log: callers that parse, print and compare timestamps.
 
 ghost use Rattle.std.specs.Prelude.{◌≡◌, ◌↔◌, ◌<ℤ◌, ◌≤ℤ◌, ℤ, IsTrue, IsSome, IsSomeAnd, IfSome, IfOk, IsOkAnd, Ok, Err, length, option_map, string_bytes};
+ghost use Rattle.std.specs.Prelude.{IsNone};
 ghost use Rattle.std.specs.Ordering.{int_cmp};
 ghost use Rattle.humantime.specs.declared.TimestampError.{TimestampError};
 ghost use Rattle.humantime.specs.Prelude.{weak_answer, strict_answer, IsPrinted, IsPrintedWith, IsPrintable, cut, places_of, printed_text};
+ghost use Rattle.humantime_std.specs.Logs.{after_stamp, stamp_of};
 
 use humantime::{
     Rfc3339Timestamp, SystemTime, TimestampError, format_rfc3339, format_rfc3339_micros,
     format_rfc3339_millis, format_rfc3339_seconds, parse_rfc3339, parse_rfc3339_weak,
 };
+use humantime_std::split_leading_time;
 use std::alloc::{AllocError, Global};
 use std::cmp::Ordering;
 
@@ -91,4 +94,18 @@ pub fn sortable_stamp<'b>(
     ensures error { (e : TimestampError) → (result ≡ Err e) ↔ (weak_answer text.now ≡ Err e) }
 {
     Ok(format_rfc3339_micros(parse_rfc3339_weak(text)?).text(buf))
+}
+
+/// Returns what follows the timestamp of a line, or `None` if it has none or its time is before
+/// `from`.
+pub fn message_since(line: &str, from: SystemTime) -> Option<&str>
+    ensures kept { (t : ℤ) → weak_answer (stamp_of line.now) ≡ Ok t → from ≤ℤ t
+        → IsSomeAnd result (λ rest. rest.now ≡ after_stamp line.now) }
+    ensures early { (t : ℤ) → weak_answer (stamp_of line.now) ≡ Ok t → t <ℤ from → IsNone result }
+    ensures other { (e : TimestampError) → weak_answer (stamp_of line.now) ≡ Err e → IsNone result }
+{
+    match split_leading_time(line) {
+        Some((time, rest)) if from <= time => Some(rest),
+        _ => None,
+    }
 }

@@ -4,8 +4,8 @@ ghost use Rattle.std.specs.Prelude.{◌≡◌, ◌+◌, ◌*◌, ◌/◌, ◌%�
 ghost use Rattle.humantime.specs.Prelude.{duration_end, moment, moment_end, nano_of, nanos_per_second, second_of};
 
 use humantime::{
-    Duration, FormattedDuration, Rfc3339Timestamp, StdDuration, SystemTime, Timestamp,
-    parse_duration, parse_rfc3339_weak,
+    Duration, FormattedDuration, Rfc3339Timestamp, StdDuration, SystemTime, SystemTimeError,
+    Timestamp, parse_duration, parse_rfc3339_weak,
 };
 
 /// Returns the limit and the duration of any seconds and nanoseconds, which are carried, or `None` if they are too long.
@@ -51,8 +51,15 @@ pub fn distance(moment: SystemTime, other: SystemTime) -> (bool, StdDuration)
 {
     match moment.duration_since(other) {
         Ok(time) => (true, time),
-        Err(error) => (false, error.duration()),
+        Err(error) => (false, apart(error)),
     }
+}
+
+/// Returns the duration between two times, of which one is before the other.
+fn apart(error: SystemTimeError) -> StdDuration
+    ensures { result ≡ error }
+{
+    error.duration()
 }
 
 /// Returns the sum of a limit and an extension of it, or `None` if that is too long.
