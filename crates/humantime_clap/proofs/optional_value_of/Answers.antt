@@ -5,5 +5,6 @@ use Rattle.humantime_clap.proofs.optional_value_of.Goals as goal
 
 pub returns-clause-value : goal.returns-clause-value
 returns-clause-value g c =
-    let given : string_of c.args.matches.now c.args.id.now ≡ Some c.in-Some.value.now = search rules in
+    let string = string_of c.args.matches.now c.args.id.now in
+    let given : string ≡ Some c.in-Some.value.now = search rules in
     rw given (inr (search rules, (c.in-Err.error, search rules)))
