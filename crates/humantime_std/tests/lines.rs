@@ -111,6 +111,7 @@ fn any_range_is_shown(rt: HostRuntime) -> Result<(), Fail> {
         ("aé", 0, 2, "  aé\n  ^"),
         ("a\t\tb中文", 4, 10, "  a\t\tb中文\n   \t\t ^^^^"),
         ("\u{301}", 0, 2, "  \u{301}\n  ^"),
+        ("\u{1b}\0\r", 1, 2, "  \\u{1b}\\u{0}\\u{d}\n        ^^^^^"),
     ] {
         assert_eq!(rt; lines_of(rt.alloc(), text, *start, *end)?.as_str(), *lines, "{text}");
     }
@@ -118,6 +119,15 @@ fn any_range_is_shown(rt: HostRuntime) -> Result<(), Fail> {
     assert_eq!(rt; format!(in rt.alloc(); "{error:#}")?.as_str(), "value was empty");
     let report = error.report(" \n\t\n").to_string(rt.alloc())?;
     assert_eq!(rt; report.as_str(), "line 1: value was empty\n   \n  ^");
+    let tabs = "\t".repeat(rt.alloc(), 1 << 20)?;
+    let text = format!(in rt.alloc(); "1h\n2{tabs}x\n3h")?;
+    let error = parse_duration(&text).expect_err(&rt, "no such unit");
+    let report = error.report(&text).to_string(rt.alloc())?;
+    // Nine tabs have 72 of the 74 columns after the dots.
+    let kept = "\t".repeat(rt.alloc(), 9)?;
+    let lines = format!(in rt.alloc(); "\n  ...{kept}x\n     {kept}^")?;
+    assert!(rt; report.starts_with("line 2: unknown time unit \"x\""));
+    assert!(rt; report.ends_with(lines.as_str()));
     Ok(())
 }
 

@@ -65,3 +65,9 @@ fn long_texts_have_their_places(rt: HostRuntime) -> Result<(), Fail> {
     assert_eq!(rt; (error.error, error.start, error.end), (DurationError::InvalidCharacter(4), 4, 5));
     Ok(())
 }
+
+#[test]
+fn a_quotient_is_truncated(rt: HostRuntime) {
+    let third = StdDuration::from_secs(20).checked_div(3);
+    assert_eq!(rt; third, Some(StdDuration::new(6, 666_666_666)));
+}
