@@ -1,8 +1,7 @@
 """Parses the sources of the crates: items with their docstrings and contracts, of which docs/API.md is made."""
 import re
 from collections import namedtuple
-from itertools import groupby
-from textwrap import dedent, indent
+from textwrap import dedent, fill, indent
 
 from copies import CRATES, read
 
@@ -11,7 +10,13 @@ ITEM = re.compile(r" *(pub )?(?:pub\(\w+\) )?(?:unsafe |const (?=fn ))?(const|en
 # The libraries, each with the order of its modules. Those that are not named follow in alphabetical order.
 LIBRARIES = {"humantime": ["duration", "date", "value", "wrapper", "calendar", "laws"]}
 LIBRARIES |= {"humantime_std": [], "humantime_settings": [], "humantime_clap": []}
+UNBROKEN = {"break_long_words": False, "break_on_hyphens": False}
 LINK = r"\[(`[^`]*`)\](?:\([^)]*\))?"
+
+
+def of_top(module):
+    """Returns the first part of the name of a module."""
+    return module.split(".")[0]
 
 
 def files(crate, folder):
@@ -52,14 +57,14 @@ def items(text):
 
 
 def said(docs, mark="/// "):
-    """Returns the lines of the first paragraph of a docstring, each behind this mark."""
-    text = re.sub(LINK, r"\1", "\n".join(docs).partition("\n\n")[0])
-    return [mark + line for line in text.split("\n") if docs]
+    """Returns the lines of a docstring before its examples, each after this mark."""
+    text = re.sub(LINK, r"\1", "\n".join(docs).partition("# Examples")[0].rstrip())
+    return [(mark + line).rstrip() for line in text.split("\n") if text]
 
 
 def declared(item):
     """Returns the signature and the contract of a function, or a type with its attributes and what is public of its body, each line with
-    the first paragraph of its docstring behind it."""
+    the first paragraph of its docstring after it."""
     if item.kind not in ("enum", "struct"):
         head = item.head.partition(" = ")[0] if item.kind == "const" else item.head.removesuffix(";")
         return head.replace("\n   ", "") if head.count("\n") == 1 and len(head) <= 120 else head
@@ -89,17 +94,29 @@ def entry(item, found):
 
 
 def public_items():
-    """Returns docs/API.md below its introduction: the public items, with what their docstrings say first, and their contracts."""
-    made, of_top = "", lambda module: module.split(".")[0]
+    """Returns docs/API.md below its introduction: an index, and the docstrings, without examples,
+    of the crates and of their public modules and items, with the contracts of these."""
+    index, made = "\n## Index\n", ""
     for crate, order in LIBRARIES.items():
         found = {module: [*items(text)] for module, text in files(crate, "src")}
-        exported = re.findall(r"\w+", " ".join(re.findall(r"^pub (?:use [\w:]+::|mod )([^;]*);", read(CRATES, crate, "src/lib.rt"), re.M)))
-        shown = {module: [item for item in here if item.is_public and not item.owner and {item.name, module} & {*exported, "lib"}]
-                 for module, here in found.items()}
-        made += f"\n## The crate `{crate}`\n"
-        for top, modules in groupby(sorted(filter(shown.get, shown), key=lambda name: [*order, of_top(name)].index(of_top(name))), of_top):
-            places = {module: f"../crates/{crate}/src/{module.replace('.', '/')}.rt" for module in modules}
-            titles = [f"{' '.join(said(found[module][0].docs, ''))} [Source]({place})\n" for module, place in places.items()]
-            code = "\n\n".join(entry(item, sum(found.values(), [])) for module in places for item in shown[module])
-            made += f"\n### {top}\n\n{'- '.join([''] * (len(titles) > 1) + titles)}\n```rust\n{code}\n```\n"
-    return made
+        lib, everything, sections = read(CRATES, crate, "src/lib.rt"), sum(found.values(), []), {}
+        modules = re.findall(r"^pub mod (\w+);", lib, re.M)
+        used = " ".join(re.findall(r"^pub use [\w:]+::([^;]*);", lib, re.M))
+        shown = {*re.findall(r"\w+", used), *modules, "lib"}
+        place = lambda name: ([*order, of_top(name)].index(of_top(name)), name)
+        for module in sorted(found, key=place):
+            is_public = of_top(module) in modules
+            for item in found[module]:
+                if item.is_public and not item.owner and {item.name, module} & shown:
+                    head = of_top(module) if is_public else item.name
+                    sections.setdefault(head, (head if is_public else module, []))[1].append(item)
+        links = ", ".join(f"[{head}](#{head.lower()})" for head in sections)
+        index += f"\n{fill(f'[{crate}](#the-crate-{crate}): {links}', 100, **UNBROKEN)}\n"
+        made += "\n".join(["", f"## The crate `{crate}`", "", *said(found["lib"][0].docs, ""), ""])
+        for head, (module, here) in sections.items():
+            text = [*said(found[head][0].docs, ""), ""] if head in modules else []
+            path = f"../crates/{crate}/src/{module.replace('.', '/')}.rt"
+            code = "\n\n".join(entry(item, everything) for item in here)
+            made += f"\n### {head}\n\n" + "\n".join([*text, f"[Source]({path})"])
+            made += f"\n\n```rust\n{code}\n```\n"
+    return index + made
