@@ -10,7 +10,6 @@ ITEM = re.compile(r" *(pub )?(?:pub\(\w+\) )?(?:unsafe |const (?=fn ))?(const|en
 # The libraries, each with the order of its modules. Those that are not named follow in alphabetical order.
 LIBRARIES = {"humantime": ["duration", "date", "value", "wrapper", "calendar", "laws"]}
 LIBRARIES |= {"humantime_std": [], "humantime_settings": [], "humantime_clap": []}
-UNBROKEN = {"break_long_words": False, "break_on_hyphens": False}
 LINK = r"\[(`[^`]*`)\](?:\([^)]*\))?"
 
 
@@ -63,17 +62,14 @@ def said(docs, mark="/// "):
 
 
 def declared(item):
-    """Returns the signature and the contract of a function, or a type with its attributes and what is public of its body, each line with
-    the first paragraph of its docstring after it."""
+    """Returns the signature and the contract of a function, or a type with its attributes and what is public of its body."""
     if item.kind not in ("enum", "struct"):
-        head = item.head.partition(" = ")[0] if item.kind == "const" else item.head.removesuffix(";")
-        return head.replace("\n   ", "") if head.count("\n") == 1 and len(head) <= 120 else head
+        return item.head.partition(" = ")[0] if item.kind == "const" else item.head.removesuffix(";")
     attributes = [re.sub(r"\bDrop, |, Drop\b", "", line) for line in item.attributes if "(Drop)" not in line]
     head = " ".join([*attributes, re.sub(r"\(\w+\);$", "", item.head).replace("pub ", "")])
-    text = re.sub(r"^ +(?:///\n(?: +///.*\n)*|#.*\n)", "", re.sub(LINK, r"\1", "\n".join(item.body)), flags=re.M)
-    text = re.sub(r"((?: +/// .*\n)+)(.*)", lambda at: f"{at[2]} // {' '.join(re.findall('/// (.*)', at[1]))}", text)
-    body = [line.replace("pub ", "") for line in text.split("\n") if re.match(" +pub " if item.kind == "struct" else " ", line)]
-    return "\n".join([f"{head} {{", *body, "}"]) if body else head if ";" in head else f"{head} {{ .. }}"
+    public = r"(?: +///.*\n)* +pub .*" if item.kind == "struct" else " .*"
+    body = re.findall(public, re.sub(LINK, r"\1", "\n".join(item.body)))
+    return "\n".join([f"{head} {{", *body, "}"]).replace("pub ", "") if body else head if ";" in head else f"{head} {{ .. }}"
 
 
 def entry(item, found):
@@ -84,8 +80,7 @@ def entry(item, found):
         if other.kind == "impl" and other.owner == item.name and other.trait not in hidden:
             known = [line for line in other.body if re.match(r"    (type|ghost (?!use)).*;$", line) and "Prim." not in line]
             known += [indent(part.head, "    ") for part in found if part[5:7] == other[5:7] and "ensures" in part.head]
-            is_short = len(known) == 1 and known[0].endswith(";") and len(other.head + known[0]) <= 120
-            made += said(other.docs) + ([f"{other.head} {{ {known[0].strip()} }}"] if is_short else [other.head, *known])
+            made += [*said(other.docs), other.head, *known]
         elif other.kind in ("const", "fn") and (other.is_public and other.owner or other.trait) == item.name:
             same = [other] + [part for part in found if part.name == other.name and part.owner in (item.name, other.owner)]
             head = declared(next((part for part in same if "ensures" in part.head), other))
@@ -104,14 +99,15 @@ def public_items():
         used = " ".join(re.findall(r"^pub use [\w:]+::([^;]*);", lib, re.M))
         shown = {*re.findall(r"\w+", used), *modules, "lib"}
         place = lambda name: ([*order, of_top(name)].index(of_top(name)), name)
-        for module in sorted(found, key=place):
-            is_public = of_top(module) in modules
-            for item in found[module]:
-                if item.is_public and not item.owner and {item.name, module} & shown:
-                    head = of_top(module) if is_public else item.name
-                    sections.setdefault(head, (head if is_public else module, []))[1].append(item)
+        public = [(module, item) for module in sorted(found, key=place) for item in found[module]
+                  if item.is_public and not item.owner and {item.name, module} & shown]
+        for module, item in public:
+            top = of_top(module)
+            head, module = (top, top) if top in modules else (item.name, module)
+            sections.setdefault(head, (module, []))[1].append(item)
         links = ", ".join(f"[{head}](#{head.lower()})" for head in sections)
-        index += f"\n{fill(f'[{crate}](#the-crate-{crate}): {links}', 100, **UNBROKEN)}\n"
+        links = f"[{crate}](#the-crate-{crate}): {links}"
+        index += f"\n{fill(links, 100, break_on_hyphens=False)}\n"
         made += "\n".join(["", f"## The crate `{crate}`", "", *said(found["lib"][0].docs, ""), ""])
         for head, (module, here) in sections.items():
             text = [*said(found[head][0].docs, ""), ""] if head in modules else []
