@@ -100,10 +100,12 @@ pub fn deserialize<'de, T: Field, F: Format>(
     T::read(alloc, from)
 }
 
-/// A type of a field that `#[serde(with = "humantime_settings")]` marks, and of an [`AsText`].
+/// A duration or a time, or an `Option`, a `Vec` or a map of these, which settings hold as strings.
 ///
-/// These types are `StdDuration`, `SystemTime`, `Duration` and `Timestamp` of `humantime`, `Duration` of std, and `Option`, `Vec` and
-/// `BTreeMap` with `String` keys of each. The trait cannot be implemented elsewhere.
+/// The types are `StdDuration`, `SystemTime`, `Duration` and `Timestamp` of `humantime`, `Duration`
+/// of std, and `Option`, `Vec` and `BTreeMap` with `String` keys of each. The attribute
+/// `#[serde(with = "humantime_settings")]` marks a field of such a type, and [`AsText`] wraps any
+/// other value of one. No other type can implement the trait.
 ///
 /// # Examples
 ///
