@@ -62,7 +62,7 @@ def said(docs, mark="/// "):
 
 
 def declared(item):
-    """Returns the signature and the contract of a function, or a type with its attributes and what is public of its body."""
+    """Returns a function with its contract, or a type with attributes and what is public of it."""
     if item.kind not in ("enum", "struct"):
         return item.head.partition(" = ")[0] if item.kind == "const" else item.head.removesuffix(";")
     attributes = [re.sub(r"\bDrop, |, Drop\b", "", line) for line in item.attributes if "(Drop)" not in line]
