@@ -78,7 +78,8 @@ def entry(item, found):
     hidden = {"", "Model", *(other.name for other in found if other.kind == "trait" and not other.is_public)}
     for other in found:
         if other.kind == "impl" and other.owner == item.name and other.trait not in hidden:
-            known = [line for line in other.body if re.match(r"    (type|ghost (?!use)).*;$", line) and "Prim." not in line]
+            known = re.findall(r"^    (?:type|ghost (?!use))[^;]*;$", "\n".join(other.body), re.M)
+            known = [line for line in known if "Prim." not in line]
             known += [indent(part.head, "    ") for part in found if part[5:7] == other[5:7] and "ensures" in part.head]
             made += [*said(other.docs), other.head, *known]
         elif other.kind in ("const", "fn") and (other.is_public and other.owner or other.trait) == item.name:
