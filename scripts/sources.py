@@ -9,7 +9,8 @@ IMPL = re.compile(r"impl(?:<[^>]*>)? ((?:(?:\w+::)*(\w+)(?:<.*>)? for )?(\w+))")
 ITEM = re.compile(r" *(pub )?(?:pub\(\w+\) )?(?:unsafe |const (?=fn ))?(const|enum|fn|struct|trait) (\w+)")
 # The libraries, each with the order of its modules. Those that are not named follow in alphabetical order.
 LIBRARIES = {"humantime": ["duration", "date", "value", "wrapper", "calendar", "laws"]}
-LIBRARIES |= {"humantime_std": [], "humantime_settings": [], "humantime_clap": []}
+LIBRARIES |= {"humantime_lines": [], "humantime_std": []}
+LIBRARIES |= {"humantime_settings": [], "humantime_clap": []}
 LINK = r"\[(`[^`]*`)\](?:\([^)]*\))?"
 
 

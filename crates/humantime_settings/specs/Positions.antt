@@ -2,9 +2,9 @@
 use Rattle.std.specs.Prelude.{◌≡◌, ◌==◌, ◌+◌, ◌++◌, ⊤, ℕ, List, [], Option, None, Some, chars, codes}
 use Rattle.std.specs.Prelude.{count_by, decimal, not, string_bytes, unwrap_or}
 use Rattle.std.specs.Str.{IsCharBoundary}
-use Rattle.humantime_std.specs.Escapes.{escaped}
-use Rattle.humantime_std.specs.Lines.{line_after, line_before, line_number}
-use Rattle.humantime_std.specs.MarkedLines.{marked_lines}
+use Rattle.humantime_lines.specs.Escapes.{escaped}
+use Rattle.humantime_lines.specs.Lines.{line_after, line_before, line_number}
+use Rattle.humantime_lines.specs.MarkedLines.{marked_lines}
 use Rattle.humantime_settings.specs.declared.error.SettingsError.{SettingsError}
 use Rattle.humantime_settings.specs.declared.error.SettingsError.TheVariants.{At, OutOfMemory}
 use Rattle.humantime_settings.specs.declared.error.SettingsError.TheVariants.{WithoutPosition}

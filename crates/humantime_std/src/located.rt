@@ -1,4 +1,5 @@
-//! The parsers of `humantime`, with errors that contain the range of the bytes that are wrong.
+//! The parsers of `humantime`, with errors that contain the range of the bytes that are wrong, and
+//! what prints these with carets, from `humantime_lines`.
 
 ghost use Rattle.std.specs.Prelude.{◌≡◌, ◌+◌, ◌-◌, ◌^◌, ◌<◌, ◌≤◌, chars, drop, length, min, suc, take, true, Err, IfErr, SomeIff};
 ghost use Rattle.std.specs.Char.{is_ascii_digit};
@@ -7,20 +8,14 @@ ghost use Rattle.std.specs.Result.{result_err, result_map_both};
 ghost use Rattle.std.specs.Str.{IsCharBoundary};
 ghost use Rattle.humantime.specs.Prelude.{NumberOverflow, duration_answer, fault_of, strict_answer, weak_answer};
 ghost use Rattle.humantime.specs.Timestamps.{has_digits, has_two, number_between};
-ghost use Rattle.humantime_std.specs.Lines.{line_after, line_before, line_number};
+ghost use Rattle.humantime_lines.specs.Lines.{line_after, line_before, line_number};
 ghost use Rattle.humantime_std.specs.Located as spec;
 ghost use Rattle.humantime_std.specs.Located.{BeginsSpans, Fit, IsFaultRange, IsRangeIn, OverflowsAt, body, end_at, start_at, strict_error, weak_error};
 
-mod carets;
-mod escapes;
-mod window;
-
-pub use carets::{MarkedLine, Report};
-use carets::{first_line, has_line_feed, last_line, line_feeds};
-pub use escapes::Escaped;
 use humantime::{
     Date, DurationError, StdDuration, SystemTime, TimestampError, Turns, day_number, spans,
 };
+pub use humantime_lines::{Escaped, MarkedLine, Report};
 use std::error::Error;
 use std::fmt::{self, Display};
 
@@ -79,18 +74,11 @@ impl<E> Located<E> {
         ensures end { ¬ (IsCharBoundary text.now self.now.start)
             → result.before.now ≡ line_before text.now (length text.now) }
     {
-        let (before, rest) = text.split_at_checked(self.start).unwrap_or((text, ""));
-        let len = self.end.saturating_sub(self.start);
-        let len = if rest.is_char_boundary(len) { len } else { 0 };
-        let (part, after) = split_line(first_line(rest), len);
-        MarkedLine {
-            before: last_line(before),
-            part,
-            after,
-        }
+        MarkedLine::new(text, self.start..self.end)
     }
 
-    /// Returns this error with its line, to print with what is wrong and a caret line.
+    /// Returns this error with its line, to print with what is wrong and a caret line. The messages
+    /// of `humantime` contain no character that controls a terminal.
     ///
     /// # Examples
     ///
@@ -116,12 +104,7 @@ impl<E> Located<E> {
             → let len = self.end - self.start in
             result.line.after.now ≡ drop len (line_after text.now self.start) }
     {
-        let (before, _) = text.split_at_checked(self.start).unwrap_or((text, ""));
-        Report {
-            number: has_line_feed(text).then_some(line_feeds(before) + 1),
-            line: self.marked_line(text),
-            error: self.error,
-        }
+        Report::new(self.error, text, self.start..self.end)
     }
 
     /// Returns this error for a string with `offset` more bytes before it: adds `offset` to both
@@ -162,15 +145,6 @@ impl<E: Display> Display for Located<E> {
 }
 
 impl<E: Error> Error for Located<E> {}
-
-/// Splits a line after a number of bytes, or after its end if it has fewer.
-fn split_line(line: &str, len: usize) -> (&str, &str)
-    requires { len ≤ length line.now → IsCharBoundary line.now len }
-    ensures front { result.0.now ≡ take len line.now }
-    ensures back { result.1.now ≡ drop len line.now }
-{
-    line.split_at_checked(len).unwrap_or((line, ""))
-}
 
 /// What can stand at each of the first 19 bytes: `0` is any digit, a space is a `T` or, in the weak
 /// format, a space, and another byte is that byte.

@@ -6,7 +6,7 @@ use Rattle.humantime.proofs.Prelude.{map, refl, replicate, slice_split, slice_sp
 use Rattle.humantime.proofs.Prelude.{slice_split_none}
 use Rattle.std.proofs.Math.Nat.{add-zero}
 use Rattle.std.proofs.lemmas.List.Elements.{All-append, All-cons, All-nil, All-replicate}
-use Rattle.humantime_std.specs.Carets.{blanks, caret_line, columns, is_tab}
+use Rattle.humantime_lines.specs.Carets.{blanks, caret_line, columns, is_tab}
 use Rattle.humantime_uses.specs.CaretColumns.{StandsUnder, column_after, column_of_pieces}
 use Rattle.humantime_uses.proofs.Printable.{HasNoTab, columns_of_printable, printable_append}
 use Rattle.humantime_uses.proofs.Printable.{printable_no_tab, printable_replicate}

@@ -16,8 +16,8 @@ use Rattle.std.proofs.lemmas.List.Sums.{sum_by-cons, sum_by-le}
 use Rattle.std.proofs.lemmas.Str.{IsUtf8-encode, IsUtf8-nil, inside_one}
 use Rattle.unicode_width.specs.Width.{char_width}
 use Rattle.unicode_width.proofs.Rules.{width_or_zero-le}
-use Rattle.humantime_std.specs.Carets.{caret_line, columns, is_tab}
-use Rattle.humantime_std.specs.Escapes.{is_hidden, room, shown}
+use Rattle.humantime_lines.specs.Carets.{caret_line, columns, is_tab}
+use Rattle.humantime_lines.specs.Escapes.{is_hidden, room, shown}
 use Rattle.humantime_uses.specs.CaretColumns.{column_after}
 use Rattle.humantime_uses.proofs.CaretColumns.{column_after_tab, column_of_carets}
 use Rattle.humantime_uses.proofs.Printable.{HasNoTab, IsAscii-printable, IsPrintable}

@@ -7,7 +7,7 @@ use Rattle.std.proofs.lemmas.List.Sums.{AllPass-from_list_all, list_all-from_All
 use Rattle.std.proofs.lemmas.Str.Ascii.{IsAscii-from_all}
 use Rattle.unicode_width.specs.Width.{str_width}
 use Rattle.unicode_width.proofs.Rules.{str_width-printable}
-use Rattle.humantime_std.specs.Carets.{columns, is_tab}
+use Rattle.humantime_lines.specs.Carets.{columns, is_tab}
 
 -- Tests whether a byte is printable ASCII.
 abbrev pub is_printable : ℕ → Bool

@@ -13,16 +13,16 @@ use Rattle.std.proofs.lemmas.Grind.{flat_map-append}
 use Rattle.std.proofs.lemmas.List.Sums.{sum_by-append}
 use Rattle.std.proofs.lemmas.Str.{encode_ascii, len_utf8_bounds, length-encode, scalars-chars}
 use Rattle.unicode_width.proofs.Rules.{width_or_zero-le}
-use Rattle.humantime_std.specs.Carets.{caret_line}
-use Rattle.humantime_std.specs.Escapes.{escaped, is_hidden, room, shown}
-use Rattle.humantime_std.specs.Lines.{line_after, line_before, line_number}
+use Rattle.humantime_lines.specs.Carets.{caret_line}
+use Rattle.humantime_lines.specs.Escapes.{escaped, is_hidden, room, shown}
+use Rattle.humantime_lines.specs.Lines.{line_after, line_before, line_number}
 use Rattle.humantime_std.specs.Located.{IsRangeIn}
-use Rattle.humantime_std.specs.MarkedLines.{Window, cut_to, dots, end_within, report_text, rooms}
-use Rattle.humantime_std.specs.MarkedLines.{start_within, window_of, written}
-use Rattle.humantime_std.proofs.Lines.{line_utf8}
+use Rattle.humantime_lines.specs.MarkedLines.{Window, cut_to, dots, end_within, report_text, rooms}
+use Rattle.humantime_lines.specs.MarkedLines.{start_within, window_of, written}
+use Rattle.humantime_lines.proofs.Lines.{line_utf8}
 use Rattle.humantime_std.proofs.Overflows.{scalars_parts}
-use Rattle.humantime_std.proofs.Windows.{rooms-cons, rooms-cut_to, rooms-dots, rooms-end_within}
-use Rattle.humantime_std.proofs.Windows.{start_within-cons, start_within-stops, written-dots}
+use Rattle.humantime_lines.proofs.Windows.{rooms-cons, rooms-cut_to, rooms-dots, rooms-end_within}
+use Rattle.humantime_lines.proofs.Windows.{start_within-cons, start_within-stops, written-dots}
 use Rattle.humantime_uses.specs.CaretColumns.{ShowsEnd, ShowsLine, ShowsRange, ShowsStart}
 use Rattle.humantime_uses.specs.CaretColumns.{line_feeds}
 use Rattle.humantime_uses.proofs.CaretColumns.{stands_under}

@@ -6,9 +6,9 @@ use Rattle.std.specs.List.{after_last, slice_split}
 use Rattle.std.specs.Str.{byte}
 use Rattle.std.specs.Str.Lines.{lines}
 use Rattle.humantime.specs.declared.date.error.TimestampError.{TimestampError}
-use Rattle.humantime_std.specs.Carets.{columns}
+use Rattle.humantime_lines.specs.Carets.{columns}
 use Rattle.humantime_std.specs.declared.located.Located.{Located}
-use Rattle.humantime_std.specs.Escapes.{escaped, shown}
+use Rattle.humantime_lines.specs.Escapes.{escaped, shown}
 
 -- Returns the column after pieces of a line with a tab between each two. The line begins in a
 -- column, and a tab leads from a column to that of the next tab stop.

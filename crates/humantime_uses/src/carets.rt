@@ -6,13 +6,31 @@ ghost use Rattle.humantime.specs.Prelude.{Fault, duration_answer, fault_message,
 ghost use Rattle.humantime_std.specs.Located.{IsFaultRange, IsRangeIn, error_range};
 ghost use Rattle.humantime_uses.specs.CaretColumns.{ShowsRange};
 
+use humantime_lines::Report;
 use humantime_std::Located;
 use humantime_std::located::{parse_duration, parse_rfc3339, parse_rfc3339_weak};
 use std::alloc::{AllocError, Global};
 use std::fmt::Display;
+use std::ops::Range;
 
 /// Lines to print, unless there is no memory for them.
 pub type Lines = Result<String, AllocError>;
+
+/// Returns the report of an error of any parser: what is wrong, the line, and below it carets under
+/// the bytes of a range.
+#[tactic(auto, using(crate::proofs::ShownLines::shows_range))]
+pub fn lines_at<E: Display + Drop>(
+    alloc: Global,
+    text: &str,
+    error: E,
+    range: Range<usize>,
+) -> Lines
+    requires { IsRangeIn text.now range.start range.end }
+    ensures { IfSome (E.output error) (λ message. IfOk result (λ lines.
+        ShowsRange text.now message range.start range.end (string_bytes lines))) }
+{
+    format!(in alloc; "{}", Report::new(error, text, range))
+}
 
 /// Returns the report of an error, if there is one: what is wrong, the line, and below it carets under the bytes of the error.
 #[tactic(auto, using(crate::proofs::ShownLines::shows_range))]

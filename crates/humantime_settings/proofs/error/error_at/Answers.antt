@@ -2,7 +2,7 @@ use Rattle.std.proofs.Common.{◌≡◌, ◌-◌, ◌<◌, ◌≤◌, ◌∙◌,
 use Rattle.std.proofs.Common.{take-append-drop, ⊎_elim}
 use Rattle.std.proofs.lemmas.Bool.{cases_lt}
 use Rattle.humantime.specs.DurationErrors.{IsRangeIn}
-use Rattle.humantime_std.specs.Lines.{line_after}
+use Rattle.humantime_lines.specs.Lines.{line_after}
 use Rattle.humantime_settings.proofs.error.error_at.Goals as goal
 
 -- What holds of two numbers holds of the greater one.

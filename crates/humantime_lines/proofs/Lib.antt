@@ -1,0 +1,3 @@
+pub mod Carets
+pub mod Lines
+pub mod Windows

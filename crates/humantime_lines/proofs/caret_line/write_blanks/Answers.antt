@@ -1,0 +1,17 @@
+use Rattle.std.proofs.Common.{rules, arith}
+use Rattle.humantime_lines.proofs.Carets.{last_piece, next_piece}
+use Rattle.humantime_lines.proofs.caret_line.write_blanks.Goals as goal
+
+pub loop-piece-preserved : goal.loop-piece-preserved
+loop-piece-preserved g c = record {
+  utf8 = search rules;
+  under = λ flush.
+      let now = c.loop-piece.invariant.under flush in
+      let filled = c.in_ok-write_repeated.ensures.styled now.wrote.flush (search rules) in
+      next_piece c.in-Some.piece.now now filled (c.in_ok-write_str.ensures.styled filled.flush (search rules)) (omega arith) (search rules);
+}
+
+pub returns : goal.returns
+returns g c = λ flush ok.
+    let now = c.loop-piece.invariant.under flush in
+    last_piece now (c.write_repeated-2.ensures.styled now.wrote.flush ok) (omega arith) (search rules)

@@ -1,0 +1,4 @@
+pub mod Carets
+pub mod Escapes
+pub mod Lines
+pub mod MarkedLines

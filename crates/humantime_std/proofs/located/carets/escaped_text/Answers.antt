@@ -1,7 +1,0 @@
-use Rattle.humantime_std.proofs.Carets.{inline_written}
-use Rattle.humantime_std.proofs.located.carets.escaped_text.Goals as goal
-
-pub returns : goal.returns
-returns c =
-    let empty = c.new-shown.ensures in
-    inline_written _ _ _ empty.text empty.intact c.in_ok-write.ensures.writes

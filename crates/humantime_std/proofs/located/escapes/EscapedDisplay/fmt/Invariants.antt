@@ -1,8 +1,0 @@
-use Rattle.std.proofs.Common.{flat_map}
-use Rattle.std.specs.Fmt.{HasWritten, IsPlainFormatter}
-use Rattle.humantime_std.specs.Escapes.{shown}
-use Rattle.humantime_std.proofs.located.escapes.EscapedDisplay.fmt.Given as goal
-
-abbrev pub invariant-loop-c : goal.invariant-loop-c
-invariant-loop-c g l = IsPlainFormatter l.initial.f
-    → HasWritten g.W.Write.write_str_gives l.initial.f (flat_map shown l.yielded) l.f
