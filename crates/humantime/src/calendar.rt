@@ -1,4 +1,5 @@
-//! Converts between dates from 1970 to 9999 and numbers of days since 1970-01-01, and counts iterations with [`Turns`].
+//! Converts between dates from 1970 to 9999 and numbers of days since 1970-01-01, and counts
+//! iterations with [`Turns`].
 
 ghost use Rattle.std.specs.Prelude.{◌≡◌, ◌+◌, ◌-◌, ◌<◌, ◌≤◌, ◌↔◌, IsSome, IfSome, MatchOption};
 ghost use Rattle.std.specs.Int.{IsInRange};
@@ -37,8 +38,9 @@ const DAYS_PER_4_YEARS: u32 = 1_461;
 /// The number of days in a common year.
 const DAYS_PER_YEAR: u32 = 365;
 
-/// A count as a unary number: `Start` is 0, and `Next` adds 1. `Next` holds a snapshot of the previous count: of the field `chain` of
-/// [`Turns`], which is a snapshot itself. Snapshots take no bytes.
+/// A count as a unary number: `Start` is 0, and `Next` adds 1. `Next` holds a snapshot of the
+/// previous count: of the field `chain` of [`Turns`], which is a snapshot itself. Snapshots take no
+/// bytes.
 #[derive(Drop)]
 enum Chain {
     Start,
@@ -47,8 +49,9 @@ enum Chain {
 
 /// A count of loop iterations, which starts at 0 and has no upper bound.
 ///
-/// Only contracts see it: at run time it takes no bytes, and counting costs nothing. The loop of [`date_of_day`](crate::date_of_day)
-/// counts each of its iterations here, so a contract can state how many a call takes.
+/// Only contracts see it: at run time it takes no bytes, and counting costs nothing. The loop of
+/// [`date_of_day`](crate::date_of_day) counts each of its iterations here, so a contract can state
+/// how many a call takes.
 ///
 /// # Examples
 ///
@@ -78,7 +81,7 @@ impl Model for Turns {
 }
 
 impl Turns {
-    /// Creates a count of 0.
+    /// Creates a count of 0, as in `day_number(date, &mut Turns::new())`.
     ///
     /// # Examples
     ///
@@ -105,7 +108,8 @@ impl Turns {
 
 /// A date: a year, a month from 1 (January) to 12, and a day of the month from 1.
 ///
-/// The fields may hold any numbers. [`day_number`] returns `None` for a date that does not exist in 1970 to 9999.
+/// The fields may hold any numbers. [`day_number`] returns `None` for a date that does not exist in
+/// 1970 to 9999.
 ///
 /// # Examples
 ///
@@ -135,7 +139,8 @@ fn days_before_year(year: u32) -> u32
     requires { IsInRange 1970 9999 year }
     ensures { result ≡ days_of_years (year - 1970) }
 {
-    // `(year - 1969) / 4` is the number of multiples of 4 from 1970 to `year - 1`, because 1968 is one. Likewise 1900 of 100, and 1600 of 400.
+    // `(year - 1969) / 4` is the number of multiples of 4 from 1970 to `year - 1`, because 1968 is
+    // one. Likewise 1900 of 100, and 1600 of 400.
     365 * (year - 1970) + (year - 1969) / 4 - (year - 1901) / 100 + (year - 1601) / 400
 }
 
@@ -176,10 +181,11 @@ fn days_before_month(year: u32, month: u32) -> u32
     }
 }
 
-/// Returns the number of days from 1970-01-01 to `date`, or `None` if the date does not exist in 1970 to 9999.
+/// Returns the number of days from 1970-01-01 to `date`, or `None` if the date does not exist in
+/// 1970 to 9999.
 ///
-/// A formula counts the leap days before the year, and a table contains the days before each month. There is no loop, so `turns` is
-/// unchanged.
+/// A formula counts the leap days before the year, and a table contains the days before each month.
+/// There is no loop, so `turns` is unchanged.
 ///
 /// # Examples
 ///
@@ -211,18 +217,20 @@ pub fn day_number(date: Date, turns: &mut Turns) -> Option<u32>
     Some(days + date.day - 1)
 }
 
-/// Splits a day, counted from 1970-01-01, into the number of years from 1600-03-01 (below 8400) and the zero-based index of the day in its
-/// year (below 366). Years begin on 1 March here, so that a leap day is the last day of its year. 1600-03-01 is 135,080 days before
-/// 1970-01-01.
+/// Splits a day, counted from 1970-01-01, into the number of years from 1600-03-01 (below 8400) and
+/// the zero-based index of the day in its year (below 366). Years begin on 1 March here, so that a
+/// leap day is the last day of its year. 1600-03-01 is 135,080 days before 1970-01-01.
 ///
-/// The last century of 400 years and the last of four years have an extra day, on which the quotient would be 4, so both are capped at 3.
+/// The last century of 400 years and the last of four years have an extra day, on which the
+/// quotient would be 4, so both are capped at 3.
 #[inline(always)]
 fn march_year(day: u32) -> (u32, u32)
     requires { day ≤ 2_932_896 }
     ensures year { result.0 ≡ TimestampResults.march_year (day + 135_080) }
     ensures day { march_days result.0 + result.1 ≡ day + 135_080 }
 {
-    // Counted from 1600-03-01, 400 years before 2000-03-01, so that the subtraction does not underflow.
+    // Counted from 1600-03-01, 400 years before 2000-03-01, so that the subtraction does not
+    // underflow.
     let from = day + DAYS_PER_400_YEARS - MARCH_2000;
     let cycles = from / DAYS_PER_400_YEARS;
     let in_cycle = from % DAYS_PER_400_YEARS;
@@ -237,8 +245,9 @@ fn march_year(day: u32) -> (u32, u32)
 
 /// Returns the date `day` days after 1970-01-01, or `None` if `day` is above 2932896 (9999-12-31).
 ///
-/// Divisions by the number of days in 400, 100, 4 and 1 years find the year, and a loop over 12 months from March on finds the month.
-/// Each iteration adds 1 to `turns`, which grows by 12 for a date and stays unchanged for `None`.
+/// Divisions by the number of days in 400, 100, 4 and 1 years find the year, and a loop over 12
+/// months from March on finds the month. Each iteration adds 1 to `turns`, which grows by 12 for a
+/// date and stays unchanged for `None`.
 ///
 /// # Examples
 ///
@@ -263,7 +272,8 @@ pub fn date_of_day(day: u32, turns: &mut Turns) -> Option<Date>
         return None;
     }
     let (year, day_of_year) = march_year(day);
-    // The months that have begun by this day, March included. A loop without an exit is faster than one that ends at the month.
+    // The months that have begun by this day, March included. A loop without an exit is faster than
+    // one that ends at the month.
     let mut begun = 0;
     for month in 0..12_usize {
         turns.tick();

@@ -9,7 +9,8 @@ use humantime_std::Located;
 use std::alloc::Global;
 use std::fmt::Display;
 
-/// Parses the value of an option that is required or has a default. Its id is also its long name.
+/// Parses the first value of an option that is required or has a default. Its id is also its long
+/// name.
 ///
 /// # Errors
 ///

@@ -7,9 +7,8 @@ ghost use Rattle.humantime_lines.specs.Escapes.{escaped, is_directive, is_hidden
 use std::fmt;
 use unicode_width::UnicodeWidthChar;
 
-/// A string that is written with an escape such as `\u{1b}` in place of each character that
-/// controls a terminal, except for a tab, or the direction of its text, or that ends a line or a
-/// paragraph.
+/// A string that is written with an escape such as `\u{1b}` in place of each character, except for
+/// a tab, that controls a terminal or the direction of its text, or ends a line or a paragraph.
 ///
 /// These are the control characters, U+061C, U+200E, U+200F, U+2028 to U+202E, and U+2066 to
 /// U+2069.

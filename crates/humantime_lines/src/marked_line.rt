@@ -21,9 +21,9 @@ const CAPACITY: usize = 4 * WIDTH;
 /// A line with a part that is wrong, to print with a caret line.
 ///
 /// `Display` writes the line, a line feed, and below the part a `^` for each column, or one where
-/// something is missing. Of a line wider than 78 columns it writes what is around the start of the
-/// part, with dots where the line is cut, so that nothing is wider than 78 columns. Characters that
-/// control a terminal are written as [`Escaped`] does.
+/// something is missing. Of a line of over 78 columns, counting eight for a tab or an escape and at
+/// least one for any other character, it writes what is around the start of the part, with dots
+/// where the line is cut. Characters that control a terminal are written as [`Escaped`] does.
 ///
 /// The columns are those of a terminal as the crate `unicode_width` counts them: two for a wide
 /// character such as `中`, none for a combining one. A terminal can show an emoji with U+FE0F, a
@@ -58,7 +58,7 @@ impl<'a> MarkedLine<'a> {
     /// that is in the range.
     ///
     /// A range that is not in `text` counts as empty, and a start that is not a `char` boundary of
-    /// `text` as its end.
+    /// `text` counts as the end of `text`.
     ///
     /// # Examples
     ///

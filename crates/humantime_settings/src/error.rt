@@ -75,8 +75,8 @@ impl SettingsError {
         }
     }
 
-    /// Returns the column of the error, in characters from 1, of which a byte order mark is none,
-    /// or `None` if it has no position.
+    /// Returns the column of the error, in characters from 1, not counting a byte order mark, or
+    /// `None` if it has no position.
     ///
     /// # Examples
     ///

@@ -1,8 +1,8 @@
 //! `humantime` with std's `Duration`, `SystemTime` and `Instant`: conversions, the current time,
 //! sleep, deadlines, differences, the next run of a job, the time of a line of a log, and parsers
-//! whose errors have a position ([`located`]).
+//! whose errors contain the range of the wrong bytes ([`located`]).
 //!
-//! The crate stands beside the port of the Rust crate `humantime`, which does not use it. A parameter `clock` takes the runtime, as `&rt`.
+//! `humantime`, the port of the Rust crate, does not use this crate. For `clock`, pass `&rt`.
 //!
 //! # Examples
 //!

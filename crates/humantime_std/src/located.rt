@@ -49,7 +49,7 @@ impl<E> Located<E> {
     /// print with a caret line.
     ///
     /// A range that is not in `text` counts as empty, and a start that is not a `char` boundary of
-    /// `text` as its end.
+    /// `text` counts as the end of `text`.
     ///
     /// # Examples
     ///
@@ -171,7 +171,8 @@ static LAYOUT: [u8; 19] = *b"0000-00-00 00:00:00";
 /// ```
 #[tactic(auto, using(crate::proofs::Inside::ends))]
 pub fn parse_duration(text: &str) -> Result<StdDuration, Located<DurationError<'_>>>
-    ensures answer { result_map_both (λ d. d) (λ e. fault_of e.error) result ≡ duration_answer (chars text.now) }
+    ensures answer { result_map_both (λ d. d) (λ e. fault_of e.error) result
+        ≡ duration_answer (chars text.now) }
     ensures place { IfErr result (λ e. IsFaultRange text.now (fault_of e.error) e.start e.end) }
     ensures range { IfErr result (λ e. IsRangeIn text.now e.start e.end) }
 {
@@ -196,8 +197,8 @@ pub fn parse_duration(text: &str) -> Result<StdDuration, Located<DurationError<'
 ///
 /// Returns its error with the bytes that are wrong:
 ///
-/// - if the first 19 bytes are not of the format `0000-00-00 00:00:00` (or with `T`), the first character that cannot be there, or the end of the
-///   string if it ends before that;
+/// - if the first 19 bytes are not of the format `0000-00-00 00:00:00` (or with `T`), the first
+///   character that cannot be there, or the end of the string if it ends before that;
 /// - else, if a number is out of range, the first of these, such as the day;
 /// - else what follows the longest start of the string that has the format.
 ///
@@ -279,7 +280,8 @@ fn overflow_range(text: &str) -> (usize, usize)
 /// this one are within the limits.
 #[tactic(auto, using(crate::proofs::Overflows::after_span))]
 fn fitting_end(text: &str, index: usize) -> Option<usize>
-    ensures { SomeIff result (Fit (chars text.now) (suc index)) (start_at (suc index) (chars text.now)) }
+    ensures { SomeIff result (Fit (chars text.now) (suc index))
+        (start_at (suc index) (chars text.now)) }
 {
     let (_, rest) = text.split_at(span_end(text, index)?);
     let end = text.len() - rest.trim_start().len();
@@ -289,7 +291,8 @@ fn fitting_end(text: &str, index: usize) -> Option<usize>
 
 /// Returns the offset after the span at an index, if there is one.
 fn span_end(text: &str, index: usize) -> Option<usize>
-    ensures { SomeIff result (BeginsSpans (suc index) (body (chars text.now))) (end_at index (chars text.now)) }
+    ensures { SomeIff result (BeginsSpans (suc index) (body (chars text.now)))
+        (end_at index (chars text.now)) }
 {
     let item = spans(text).nth(index);
     item.and_then(Result::ok).map(|span| span.end())

@@ -10,8 +10,9 @@ use std::fmt;
 
 /// The error returned when parsing a duration fails.
 ///
-/// Offsets are in bytes, and lie on `char` boundaries of the string. `Display` writes the message of the Rust crate `humantime`, with the
-/// unit as written in the string. Two errors are equal if their variants and fields are equal; units are compared as strings.
+/// Offsets are in bytes, and lie on `char` boundaries of the string. `Display` writes the message
+/// of the Rust crate `humantime`, with the unit as written in the string. Two errors are equal if
+/// their variants and fields are equal; units are compared as strings.
 ///
 /// # Examples
 ///
@@ -25,11 +26,13 @@ use std::fmt;
 /// ```
 #[derive(Clone, Copy, PartialEq, Eq, Debug)]
 pub enum DurationError<'a> {
-    /// The character at this offset is not allowed there, or is a decimal point without a digit after it.
+    /// The character at this offset is not allowed there, or is a decimal point without a digit
+    /// after it.
     InvalidCharacter(usize),
     /// A number was expected, but the character at this offset is not a digit.
     NumberExpected(usize),
-    /// The letters after a number (ASCII, `µ` or `μ`) do not name a unit, or the string ends without a unit.
+    /// The letters after a number (ASCII, `µ` or `μ`) do not name a unit, or the string ends
+    /// without a unit.
     UnknownUnit {
         /// The offset of the unit's first letter, or the string's length if the unit is missing.
         start: usize,
@@ -37,14 +40,15 @@ pub enum DurationError<'a> {
         end: usize,
         /// The unit, borrowed from the string; empty if it is missing.
         unit: &'a str,
-        /// The integer part of the number before the unit.
+        /// The number before the unit, without its fraction.
         value: u64,
     },
-    /// A number, its product with the size of its unit, or the sum overflows; or a fraction cannot be represented, as
-    /// [`parse_duration`](crate::parse_duration) describes.
+    /// A number, its product with the size of its unit, or the sum overflows; or a fraction cannot
+    /// be represented, as [`parse_duration`](crate::parse_duration) describes.
     ///
-    /// The product of a number and its unit is in nanoseconds for units up to milliseconds, and otherwise in seconds. A product in
-    /// nanoseconds, plus the subsecond nanoseconds of the sum so far, must also fit in a `u64`.
+    /// The product of a number and its unit is in nanoseconds for units up to milliseconds, and
+    /// otherwise in seconds. A product in nanoseconds, plus the subsecond nanoseconds of the sum so
+    /// far, must also fit in a `u64`.
     NumberOverflow,
     /// The string is empty or consists of whitespace only.
     Empty,
@@ -75,17 +79,20 @@ impl Error for DurationError<'_> {}
 #[tactic(auto, using(crate::proofs::Messages::texts_written))]
 fn write_number<W: fmt::Write>(text: &str, number: u64, f: &mut fmt::Formatter<W>) -> fmt::Result
     ensures writes { WritesOnOk W.write_str_gives f.old result (text.now ++ decimal number) f.new }
-    ensures styled { WritesStyledOnOk W.write_str_gives f.old result (text.now ++ decimal number) f.new }
+    ensures styled { WritesStyledOnOk W.write_str_gives f.old result (text.now ++ decimal number)
+        f.new }
 {
     f.write_str(text)?;
     f.write_str(Buffer::new().format(number))
 }
 
-/// Writes the message for an unknown unit, or for a missing one if `unit` is empty. `value` is the number before it.
+/// Writes the message for an unknown unit, or for a missing one if `unit` is empty. `value` is the
+/// number before it.
 #[tactic(auto, using(crate::proofs::Messages::texts_written))]
 fn write_unit<W: fmt::Write>(unit: &str, value: u64, f: &mut fmt::Formatter<W>) -> fmt::Result
     ensures writes { WritesOnOk W.write_str_gives f.old result (unit_message unit.now value) f.new }
-    ensures styled { WritesStyledOnOk W.write_str_gives f.old result (unit_message unit.now value) f.new }
+    ensures styled { WritesStyledOnOk W.write_str_gives f.old result (unit_message unit.now value)
+        f.new }
 {
     if unit.is_empty() {
         write_number("time unit needed, for example ", value, f)?;

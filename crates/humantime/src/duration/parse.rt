@@ -27,20 +27,24 @@ fn add_times(sum: StdDuration, one: Quantity, count: u64) -> Option<StdDuration>
     }
 }
 
-/// Returns the fraction times `factor`, or `None` if that is not a whole number or the significand times `factor` overflows.
+/// Returns the fraction times `factor`, or `None` if that is not a whole number or the significand
+/// times `factor` overflows.
 #[tactic(auto, using(crate::proofs::SpanParts::power_positive))]
 fn part_of(fraction: Fraction, factor: u64) -> Option<u64>
     requires { fraction.exponent ≤ max_fraction_digits }
-    ensures { SomeIff result (IsTrue (is_whole_part factor fraction.significand fraction.exponent)) (fraction.significand * factor / 10 ^ fraction.exponent) }
+    ensures { SomeIff result (IsTrue (is_whole_part factor fraction.significand fraction.exponent))
+        (fraction.significand * factor / 10 ^ fraction.exponent) }
 {
     let scaled = fraction.significand.checked_mul(factor)?;
     let power = power_of_ten(fraction.exponent);
     (scaled % power == 0).then_some(scaled / power)
 }
 
-/// Returns `sum` plus the fraction of `one`, or `None` on overflow or if that part is not a whole number.
+/// Returns `sum` plus the fraction of `one`, or `None` on overflow or if that part is not a whole
+/// number.
 ///
-/// If `one` is `None`, as for nanoseconds, which have no fractions, the result is `None` unless the fraction is zero.
+/// If `one` is `None`, as for nanoseconds, which have no fractions, the result is `None` unless the
+/// fraction is zero.
 fn add_part(sum: StdDuration, one: Option<Quantity>, fraction: Fraction) -> Option<StdDuration>
     requires { fraction.exponent ≤ max_fraction_digits }
     ensures { result ≡ PrivateFunctions.add_part sum one fraction.significand fraction.exponent }
@@ -52,8 +56,8 @@ fn add_part(sum: StdDuration, one: Option<Quantity>, fraction: Fraction) -> Opti
     }
 }
 
-/// Returns `total` plus what a span adds: first its number, then its fraction. Returns `None` on overflow, or if the fraction is not a
-/// whole number of nanoseconds or of seconds.
+/// Returns `total` plus what a span adds: first its number, then its fraction. Returns `None` on
+/// overflow, or if the fraction is not a whole number of nanoseconds or of seconds.
 #[inline(always)]
 #[tactic(auto, using(crate::proofs::Slices::amounts), unfolding(crate::specs::Walks::add_span))]
 fn add_amount(total: StdDuration, span: Span) -> Option<StdDuration>
@@ -69,13 +73,15 @@ fn add_amount(total: StdDuration, span: Span) -> Option<StdDuration>
     }
 }
 
-/// Returns an iterator over the spans of `s`, from left to right, and then the error at which they end, if any.
+/// Returns an iterator over the spans of `s`, from left to right, and then the error at which they
+/// end, if any.
 ///
 /// # Errors
 ///
-/// The errors are those of [`parse_duration`], but products and sums are not checked, nor whether a fraction is a whole number of
-/// nanoseconds or seconds. A number above `u64::MAX`, or a fraction with more than 19 digits before its trailing zeros, is still an
-/// error. Unlike `parse_duration`, this function rejects `0`, which has no unit.
+/// The errors are those of [`parse_duration`], but products and sums are not checked, nor whether a
+/// fraction is a whole number of nanoseconds or seconds. A number above `u64::MAX`, or a fraction
+/// with more than 19 digits before its trailing zeros, is still an error. Unlike `parse_duration`,
+/// this function rejects `0`, which has no unit.
 ///
 /// # Examples
 ///
@@ -128,28 +134,32 @@ fn sum_of<'a>(text: &'a str) -> Result<StdDuration, DurationError<'a>>
 
 /// Parses a duration, such as `2h 37min`.
 ///
-/// The string consists of one or more spans, and the duration is their sum. A span is a number, an optional fraction and a unit, such as
-/// `1.5d`. Digits are ASCII. Unicode whitespace is allowed around spans and their parts, and between digits. Trailing zeros of a fraction are
-/// ignored. The string `0`, without a unit or whitespace, is the zero duration.
+/// The string consists of one or more spans, and the duration is their sum. A span is a number, an
+/// optional fraction and a unit, such as `1.5d`. Digits are ASCII. Unicode whitespace is allowed
+/// around spans and their parts, and between digits. Trailing zeros of a fraction are ignored. The
+/// string `0`, without a unit or whitespace, is the zero duration.
 ///
-/// A unit is a word of the table in `docs/DURATIONS.md`, such as `ns`, `us` or `µs`, `ms`, `s`, `m`, `h`, `d`, `w`, `M` (a month of 30.44
-/// days), `y` (a year of 365.25 days), `min`, `hours` or `months`. Case matters.
+/// A unit is a word of the table in `docs/DURATIONS.md`, such as `ns`, `us` or `µs`, `ms`, `s`,
+/// `m`, `h`, `d`, `w`, `M` (a month of 30.44 days), `y` (a year of 365.25 days), `min`, `hours` or
+/// `months`. Case matters.
 ///
 /// # Errors
 ///
-/// Returns the first error, from left to right. In a span, the checks are in this order: whether the number is too large or the fraction too
-/// long, the characters, the unit, and the limits of the span and of the sum. Offsets are in bytes and lie on `char` boundaries.
+/// Returns the first error, from left to right. In a span, the checks are in this order: whether
+/// the number is too large or the fraction too long, the characters, the unit, and the limits of
+/// the span and of the sum. Offsets are in bytes and lie on `char` boundaries.
 ///
 /// - [`Empty`](DurationError::Empty): the string is empty or contains only whitespace.
-/// - [`NumberExpected`](DurationError::NumberExpected): the first character after leading whitespace, or after a span and whitespace, is not
-///   a digit.
-/// - [`InvalidCharacter`](DurationError::InvalidCharacter): a span has a character that is not allowed there, or a decimal
-///   point without a digit after it.
-/// - [`UnknownUnit`](DurationError::UnknownUnit): the letters after a number (ASCII, `µ` or `μ`) are not a unit, or the string ends
-///   without one. The error borrows the unit from `s`.
-/// - [`NumberOverflow`](DurationError::NumberOverflow): a number, a number times the size of its unit, the digits of a fraction times
-///   that size, or the sum overflows; or a fraction has more than 19 digits before its trailing zeros, or is not a whole number of
-///   nanoseconds or, for hours and longer units, of seconds.
+/// - [`NumberExpected`](DurationError::NumberExpected): the first character after leading
+///   whitespace, or after a span and whitespace, is not a digit.
+/// - [`InvalidCharacter`](DurationError::InvalidCharacter): a span has a character that is not
+///   allowed there, or a decimal point without a digit after it.
+/// - [`UnknownUnit`](DurationError::UnknownUnit): the letters after a number (ASCII, `µ` or `μ`)
+///   are not a unit, or the string ends without one. The error borrows the unit from `s`.
+/// - [`NumberOverflow`](DurationError::NumberOverflow): a number, its product with the size of its
+///   unit, or the sum overflows; or a fraction has more than 19 digits before its trailing zeros,
+///   is not a whole number of nanoseconds (for hours and longer units, of seconds), or its digits
+///   times the unit in nanoseconds (seconds) overflow.
 ///
 /// # Examples
 ///
