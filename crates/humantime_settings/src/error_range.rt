@@ -2,7 +2,7 @@
 
 use crate::raw_strings::raw_range;
 use humantime_std::located::{Located, parse_duration, parse_rfc3339_weak};
-use serde_trace::{Found, Rejection};
+use serde_trace::{Rejection, Unexpected};
 use std::alloc::{AllocError, Global};
 use std::fmt::{Display, InlineText};
 
@@ -24,10 +24,10 @@ pub(crate) fn range_at(
     document: &str,
     at: usize,
     rejection: &Rejection,
-    found: Found<'_>,
+    found: Unexpected<'_>,
 ) -> Result<Located<String>, AllocError> {
     let message = rejection.message(alloc, found)?;
-    if let Found::Text(text) = found {
+    if let Unexpected::Str(text) = found {
         if let Some(error) = error_in(alloc, &message, document, at, text)? {
             return Ok(error);
         }

@@ -1,7 +1,7 @@
 //! What a JSON document has where a path leads.
 
 use json::{MAX_DEPTH, Reader, Scratch, Token};
-use serde_trace::{Cause, Found, Part, Rejection};
+use serde_trace::{Cause, Part, Rejection, Unexpected};
 use std::alloc::AllocError;
 
 /// Returns the offset of what is rejected, and what is there.
@@ -9,7 +9,7 @@ pub(crate) fn found_at<'a>(
     document: &'a str,
     rejection: &Rejection,
     scratch: &'a mut Scratch,
-) -> Result<(usize, Found<'a>), AllocError> {
+) -> Result<(usize, Unexpected<'a>), AllocError> {
     let mut reader = Reader::new(document, scratch)?;
     let (mut offset, mut token) = (0, Token::Bad);
     for number in &rejection.path {
@@ -20,16 +20,24 @@ pub(crate) fn found_at<'a>(
         Part::Value => (offset, token) = (reader.offset(), reader.next().unwrap_or(Token::Bad)),
         Part::End => (offset, token) = pass_entries(&mut reader, usize::MAX),
     }
-    let found = match (token, rejection.cause) {
-        (Token::BeginArray, Cause::Length | Cause::Long) => Found::Seq(items_left(&mut reader)),
+    let found = match (token, &rejection.cause) {
+        (Token::BeginArray, Cause::Length | Cause::Long(_)) => {
+            Unexpected::Seq(items_left(&mut reader))
+        }
         _ => described(token),
     };
     Ok((offset, found))
 }
 
-/// Opens an object or an array, and passes so many members or items, or all. Returns the key or the bracket that follows, if one does.
+/// Opens an object or an array, and passes so many members or items, or all. Returns the key or the bracket that follows, if one does, or
+/// another value.
 fn pass_entries<'a>(reader: &mut Reader<'a>, count: usize) -> (usize, Token<'a>) {
-    let is_object = matches!(reader.next(), Some(Token::BeginObject));
+    let start = reader.offset();
+    let is_object = match reader.next() {
+        Some(Token::BeginObject) => true,
+        Some(Token::BeginArray) => false,
+        token => return (start, token.unwrap_or(Token::Bad)),
+    };
     for passed in 0..=count {
         let offset = reader.offset();
         let token = if is_object {
@@ -59,13 +67,13 @@ fn items_left(reader: &mut Reader<'_>) -> usize {
 }
 
 /// Describes the value or the key that begins with a token.
-fn described(token: Token<'_>) -> Found<'_> {
+fn described(token: Token<'_>) -> Unexpected<'_> {
     match token {
-        Token::String(text) | Token::Key(text) => Found::Text(text),
-        Token::Number(digits) => Found::Number(digits),
-        Token::Bool(b) => Found::Bool(b),
-        Token::Null => Found::Null,
-        Token::BeginArray => Found::Seq(0),
-        _ => Found::Map,
+        Token::String(text) | Token::Key(text) => Unexpected::Str(text),
+        Token::Number(digits) => Unexpected::Number(digits),
+        Token::Bool(b) => Unexpected::Bool(b),
+        Token::Null => Unexpected::Null,
+        Token::BeginArray => Unexpected::Seq(0),
+        _ => Unexpected::Map,
     }
 }

@@ -13,7 +13,7 @@ use crate::json_positions::found_at;
 use crate::json_syntax::syntax_error;
 use humantime_std::located::Located;
 use json::Scratch;
-use serde::{Deserialize, Serialize};
+use serde::{Deserialize, DeserializeOwned, Deserializer, Format, Serialize};
 use serde_trace::{Rejection, Traced};
 use std::alloc::{AllocError, Global};
 
@@ -39,16 +39,32 @@ use std::alloc::{AllocError, Global};
 /// let error = from_json::<Vec<AsText<StdDuration>>>(rt.alloc(), r#"["1s", "1m 30"]"#).err().ok_or("read")?;
 /// assert_eq!(rt; error.to_string(rt.alloc())?.as_str(), "line 1, column 14: time unit needed, for example 30sec or 30ms\n[\"1s\", \"1m 30\"]\n             ^");
 /// ```
-pub fn from_json<'a, T: Deserialize<'a>>(alloc: Global, text: &'a str) -> Result<T, SettingsError>
+pub fn from_json<T: DeserializeOwned>(alloc: Global, text: &str) -> Result<T, SettingsError>
     ensures position { IfErr result (IsErrorIn text.now) }
     ensures positioned { (message : _) → result ≢ Err (SettingsError.WithoutPosition message) }
 {
+    if let Ok(Owned(value)) = serde_json::from_str::<Owned<T>>(alloc, text) {
+        return Ok(value);
+    }
     let error = match serde_json::from_str::<Traced<T>>(alloc, text) {
         Ok(Traced(Ok(value))) => return Ok(value),
         Ok(Traced(Err(rejection))) => rejected(alloc, text, &rejection)?,
         Err(error) => document_error(alloc, text, &error)?,
     };
     Err(error_at(alloc, text, error)?)
+}
+
+/// A value that borrows nothing.
+#[derive(Drop)]
+struct Owned<T>(T);
+
+impl<'de, T: DeserializeOwned> Deserialize<'de> for Owned<T> {
+    fn deserialize<F: Format>(
+        alloc: Global,
+        from: &mut Deserializer<'de, '_, F>,
+    ) -> Result<Owned<T>, F::Error> {
+        Ok(Owned(T::deserialize_owned(alloc, from)?))
+    }
 }
 
 /// Writes settings in pretty-printed JSON.

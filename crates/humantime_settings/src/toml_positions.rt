@@ -151,15 +151,31 @@ pub(crate) fn wrong_part(alloc: Global, document: &str, at: usize) -> Result<usi
     let (key, after_key) = dotted_key(alloc, part).map_err(|_| AllocError)?;
     // No key of the document is as long.
     let fresh = "x".repeat(alloc, document.len())?;
+    let mut parts = Vec::new(alloc);
     for _ in &key.path {
         let (_, rest) = name_at(alloc, part)?;
-        let front = document.strip_suffix(rest).unwrap_or("");
-        let text = format!(in alloc; "{front}.{fresh}{after_key}")?;
-        if error_start(toml::table_from_str(alloc, &text))? == Some(at) {
-            break;
-        }
+        parts.push((part, rest))?;
         part = skip_ws(tail(rest, 1));
     }
+    // A part behind one that cannot be extended cannot be extended either.
+    let (mut low, mut high) = (0, parts.len());
+    for _ in 0..64 {
+        if low >= high {
+            break;
+        }
+        let middle = low + (high - low) / 2;
+        let Some((_, rest)) = parts.get(middle) else {
+            break;
+        };
+        let front = document.strip_suffix(*rest).unwrap_or("");
+        let text = format!(in alloc; "{front}.{fresh}{after_key}")?;
+        if error_start(toml::table_from_str(alloc, &text))? == Some(at) {
+            high = middle;
+        } else {
+            low = middle + 1;
+        }
+    }
+    let part = parts.get(low).map_or(part, |part| part.0);
     Ok(document.len().saturating_sub(part.len()))
 }
 

@@ -8,8 +8,8 @@ use crate::error::{SettingsError, error_at};
 use crate::error_range::{error_from, range_at};
 use crate::toml_positions::{Step, entry_of, wrong_part};
 use humantime_std::located::Located;
-use serde::{DeserializeOwned, Serialize};
-use serde_trace::{Cause, Found, Owned, Part, Rejection, Traced};
+use serde::{DeserializeOwned, Kind, Serialize};
+use serde_trace::{Cause, Part, Rejection, Traced, Unexpected};
 use std::alloc::{AllocError, Global};
 use toml::Value;
 use toml_parser::ErrorKind;
@@ -47,8 +47,11 @@ pub fn from_toml<T: DeserializeOwned>(alloc: Global, text: &str) -> Result<T, Se
     ensures position { IfErr result (IsErrorIn text.now) }
     ensures positioned { (message : _) → result ≢ Err (SettingsError.WithoutPosition message) }
 {
-    let rejection = match toml::from_str::<Traced<Owned<T>>>(alloc, text) {
-        Ok(Traced(Ok(Owned(value)))) => return Ok(value),
+    if let Ok(value) = toml::from_str::<T>(alloc, text) {
+        return Ok(value);
+    }
+    let rejection = match toml::from_str::<Traced<T>>(alloc, text) {
+        Ok(Traced(Ok(value))) => return Ok(value),
         Ok(Traced(Err(rejection))) => rejection,
         Err(error) => return Err(document_error(alloc, text, &error)?),
     };
@@ -120,11 +123,11 @@ fn located(
         && (steps.len() < rejection.path.len() || rejection.part == Part::End)
     {
         // Nothing but a map is read from a date-time, step by step.
-        (rejection.part, rejection.cause) = (Part::Value, Cause::Expected);
-        rejection.words = String::from_str(alloc, "a map")?;
+        let expected = String::from_str(alloc, "a map")?;
+        (rejection.part, rejection.cause) = (Part::Value, Cause::Expected(Kind::Map, expected));
     }
     let found = match steps.last() {
-        Some(Step::Key(key)) if rejection.part == Part::Key => Found::Text(key),
+        Some(Step::Key(key)) if rejection.part == Part::Key => Unexpected::Str(key),
         _ => described(value),
     };
     let (key, value) = entry_of(alloc, text, &steps)?;
@@ -167,14 +170,14 @@ fn step_into(value: &Value, number: usize) -> Option<(Step<'_>, &Value)> {
 }
 
 /// Describes a value.
-fn described(value: &Value) -> Found<'_> {
+fn described(value: &Value) -> Unexpected<'_> {
     match value {
-        Value::String(text) => Found::Text(text.as_str()),
-        Value::Integer(n) => Found::Integer(*n),
-        Value::Float(x) => Found::Float(*x),
-        Value::Boolean(b) => Found::Bool(*b),
-        Value::Datetime(_) => Found::Datetime,
-        Value::Array(items) => Found::Seq(items.len()),
-        Value::Table(_) => Found::Map,
+        Value::String(text) => Unexpected::Str(text.as_str()),
+        Value::Integer(n) => Unexpected::Integer(*n),
+        Value::Float(x) => Unexpected::Float(*x),
+        Value::Boolean(b) => Unexpected::Bool(*b),
+        Value::Datetime(_) => Unexpected::Datetime,
+        Value::Array(items) => Unexpected::Seq(items.len()),
+        Value::Table(_) => Unexpected::Map,
     }
 }

@@ -1,8 +1,8 @@
 //! Wrong values below each attribute of `serde`, in TOML and in JSON.
 
-use crate::support::{Read, Row, Wait, assert_errors, reads};
+use crate::support::{Row, Wait, assert_errors, reads};
 use humantime::{StdDuration, SystemTime};
-use humantime_settings::{AsText, from_json};
+use humantime_settings::AsText;
 use serde::Deserialize;
 use std::collections::BTreeMap;
 use std::test::Fail;
@@ -157,17 +157,7 @@ const NAMES: &[(&str, &str)] = &[
     ("LONG", "«k*70».«k*30»"),
 ];
 
-/// A value that borrows from JSON.
-#[derive(Debug, Drop, Deserialize)]
-struct Lent<'a> { name: &'a str, wait: Wait }
-
 #[test]
 fn wrong_values(rt: HostRuntime) -> Result<(), Fail> {
-    assert_errors(&rt, reads!(All), NAMES, WRONG)?;
-    let lent: Read = |alloc, text| from_json::<Lent>(alloc, text).err();
-    assert_errors(&rt, [lent; 2], &[], &[
-        ("expected a duration in quotes", &[r#"{"name":"a","wait":^5}"#]), ("missing field `wait`", &[r#"{"name":"a"^}"#]),
-        (r#"invalid type: string "a\n", expected a borrowed string"#, &[r#"{"name":^"a\n","wait":"1s"}"#]),
-        ("invalid type: integer `1`, expected a borrowed string", &[r#"{"name":^1}"#]),
-    ])
+    assert_errors(&rt, reads!(All), NAMES, WRONG)
 }

@@ -2,8 +2,7 @@
 
 use humantime::{Duration, StdDuration, SystemTime, Timestamp};
 use humantime_settings::{AsText, from_json, from_toml, to_json, to_toml};
-use serde::{Deserialize, DeserializeOwned, Deserializer, Format, Serialize};
-use std::alloc::Global;
+use serde::{Deserialize, DeserializeOwned, Serialize};
 use std::collections::BTreeMap;
 use std::fmt::Debug;
 use std::process::Abort;
@@ -140,33 +139,6 @@ fn moments_without_a_text_are_not_written(rt: HostRuntime) -> Result<(), Fail> {
         for written in [to_json(alloc, &value), to_toml(alloc, &value)] {
             assert_eq!(rt; written.as_ref().err().map_or("", |error| error.message()), wanted);
         }
-    }
-    Ok(())
-}
-
-/// A number that its type parses from a string that it borrows. An empty one is zero or rejected.
-#[derive(Debug, Drop)]
-struct Parsed<const EMPTY: bool>(u64);
-
-impl<'de, const EMPTY: bool> Deserialize<'de> for Parsed<EMPTY> {
-    fn deserialize<F: Format>(_alloc: Global, from: &mut Deserializer<'de, '_, F>) -> Result<Parsed<EMPTY>, F::Error> {
-        let text = from.borrowed_str()?;
-        match text.parse() {
-            Ok(number) => Ok(Parsed(number)),
-            Err(_) if EMPTY && text.is_empty() => Ok(Parsed(0)),
-            Err(_) => Err(from.custom("not a number")),
-        }
-    }
-}
-
-#[test]
-fn a_borrowed_string_is_rejected_by_its_type(rt: HostRuntime) -> Result<(), Fail> {
-    assert_eq!(rt; from_json::<Parsed<false>>(rt.alloc(), "\"70\"")?.0, 70);
-    let (alloc, wrong) = (rt.alloc(), "\n\"7x\"");
-    let list = from_json::<Vec<Parsed<false>>>(alloc, "\n[\"7x\", }").err();
-    for error in [list, from_json::<Parsed<false>>(alloc, wrong).err(), from_json::<Parsed<true>>(alloc, wrong).err()] {
-        let error = error.ok_or("read")?;
-        assert_eq!(rt; (error.message(), error.line()), ("not a number", Some(2)));
     }
     Ok(())
 }

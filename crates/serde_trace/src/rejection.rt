@@ -1,5 +1,6 @@
 //! Where and why a document does not contain a value.
 
+use serde::Kind;
 use std::alloc::{AllocError, Global};
 use std::fmt::{self, Display};
 
@@ -10,35 +11,43 @@ pub struct Rejection {
     pub path: Vec<usize>,
     pub part: Part,
     pub cause: Cause,
-    pub words: String,
 }
 
 impl Rejection {
     /// Returns what `serde` says of it, where the document has this.
-    pub fn message(&self, alloc: Global, found: Found<'_>) -> Result<String, AllocError> {
-        let words = self.words.as_str();
-        let (text, len) = match found {
-            Found::Text(text) => (text, 0),
-            Found::Seq(len) => ("", len),
+    pub fn message(&self, alloc: Global, found: Unexpected<'_>) -> Result<String, AllocError> {
+        let (name, len) = match found {
+            Unexpected::Str(text) => (text, 0),
+            Unexpected::Seq(len) => ("", len),
             _ => ("", 0),
         };
-        let (what, expected) = match self.cause {
-            Cause::Missing => return named(alloc, "missing field", words, ""),
-            Cause::Duplicate => return named(alloc, "duplicate field", text, ""),
-            Cause::UnknownField => return named(alloc, "unknown field", text, words),
-            Cause::UnknownVariant => return named(alloc, "unknown variant", text, words),
-            Cause::Length | Cause::Long => return format!(in alloc; "invalid length {len}{words}"),
-            Cause::NoUnit => ("type", "unit"),
-            Cause::Range => ("value", "an integer in range"),
-            Cause::Expected => match (words, found) {
-                ("an integer", _) if found.is_integer() => ("value", "an integer in range"),
-                ("a character", Found::Text(_)) | ("byte array", Found::Seq(_)) => ("value", words),
-                ("f32", Found::Float(_) | Found::Number(_)) => ("value", words),
-                _ => ("type", words),
-            },
-            cause => return String::from_str(alloc, complete_message(cause, words)),
-        };
-        format!(in alloc; "invalid {what}: {found}, expected {expected}")
+        match &self.cause {
+            Cause::Message(message) if message.is_empty() => {
+                String::from_str(alloc, "invalid value")
+            }
+            Cause::Message(message) => String::from_str(alloc, message.as_str()),
+            Cause::Missing(key) => format!(in alloc; "missing field `{key}`"),
+            Cause::Duplicate => format!(in alloc; "duplicate field `{name}`"),
+            Cause::UnknownField(expected) => format!(in alloc; "unknown field `{name}`{expected}"),
+            Cause::UnknownVariant(expected) => {
+                format!(in alloc; "unknown variant `{name}`{expected}")
+            }
+            Cause::Length => format!(in alloc; "invalid length {len}"),
+            Cause::Long(size) => {
+                format!(in alloc; "invalid length {len}, expected a tuple of size {size}")
+            }
+            Cause::Range => {
+                format!(in alloc; "invalid value: {found}, expected an integer in range")
+            }
+            Cause::Expected(kind, expected) => {
+                let (what, more) = match (found.is(*kind), kind) {
+                    (true, Kind::Signed) => ("value", " in range"),
+                    (true, _) => ("value", ""),
+                    (false, _) => ("type", ""),
+                };
+                format!(in alloc; "invalid {what}: {found}, expected {expected}{more}")
+            }
+        }
     }
 }
 
@@ -51,44 +60,31 @@ pub enum Part {
     End,
 }
 
-/// Why a value is rejected, and what its words are.
-#[derive(Clone, Copy, Drop)]
+/// Why a value is rejected.
+#[derive(Drop)]
 pub enum Cause {
-    /// The message.
-    Message,
-    /// What is expected in place of the value.
-    Expected,
-    /// The key that is missing.
-    Missing,
-    /// What is expected behind the name of the field or of the variant.
-    UnknownField,
-    UnknownVariant,
-    /// It is a sequence with too many items. What is expected.
-    Long,
-    // The others have no words.
-    /// It is a sequence with the wrong number of items.
-    Length,
-    Duplicate,
+    /// This is said of it, if anything.
+    Message(String),
+    /// Something else is expected: one of this kind, but perhaps not each.
+    Expected(Kind, String),
     /// It is an integer that the type does not contain.
     Range,
-    NoUnit,
-    /// It is the name of a variant that has data.
-    NoData,
-    /// It is a map with no key, or with a second one, where that of a variant is expected.
-    NoVariant,
-    TwoVariants,
-    /// It is no variant of an untagged enum.
-    NoMatch,
-    Invalid,
-    /// The type rejects the empty string that it has in place of one that it borrows.
-    Borrowed,
+    /// This key is missing.
+    Missing(String),
+    Duplicate,
+    /// What is expected behind the name of the field or of the variant.
+    UnknownField(String),
+    UnknownVariant(String),
+    /// It is a sequence with the wrong number of items, or with more than this.
+    Length,
+    Long(usize),
 }
 
 /// What a document has where an error is.
 #[derive(Clone, Copy)]
-pub enum Found<'a> {
+pub enum Unexpected<'a> {
     /// A string or a key.
-    Text(&'a str),
+    Str(&'a str),
     Integer(i64),
     Float(f64),
     /// A number, as it is written.
@@ -101,47 +97,36 @@ pub enum Found<'a> {
     Map,
 }
 
-impl Found<'_> {
-    fn is_integer(self) -> bool {
-        match self {
-            Found::Integer(_) => true,
-            Found::Number(digits) => !digits.contains(['.', 'e', 'E']),
+impl Unexpected<'_> {
+    /// Returns whether it is of this kind, of which a type need not contain each value.
+    fn is(self, kind: Kind) -> bool {
+        match (kind, self) {
+            (Kind::Signed, Unexpected::Integer(_)) => true,
+            // To `serde_json`, -0 is a float.
+            (Kind::Signed, Unexpected::Number(digits)) => {
+                digits != "-0" && !digits.contains(['.', 'e', 'E'])
+            }
+            (Kind::Float, Unexpected::Float(_) | Unexpected::Number(_)) => true,
+            (Kind::Str, Unexpected::Str(_)) | (Kind::Bytes, Unexpected::Seq(_)) => true,
             _ => false,
         }
     }
 }
 
 /// Writes what `serde` calls it.
-impl Display for Found<'_> {
+impl Display for Unexpected<'_> {
     fn fmt<W: fmt::Write>(&self, f: &mut fmt::Formatter<W>) -> fmt::Result {
         match self {
-            Found::Text(text) => write!(f, "string {text:?}"),
-            Found::Integer(n) => write!(f, "integer `{n}`"),
-            Found::Float(x) => write!(f, "floating point `{x:?}`"),
-            Found::Number(digits) if self.is_integer() => write!(f, "integer `{digits}`"),
-            Found::Number(digits) => write!(f, "floating point `{digits}`"),
-            Found::Bool(b) => write!(f, "boolean `{b}`"),
-            Found::Null => f.write_str("null"),
-            Found::Datetime => f.write_str("datetime"),
-            Found::Seq(_) => f.write_str("sequence"),
-            Found::Map => f.write_str("map"),
+            Unexpected::Str(text) => write!(f, "string {text:?}"),
+            Unexpected::Integer(n) => write!(f, "integer `{n}`"),
+            Unexpected::Float(x) => write!(f, "floating point `{x:?}`"),
+            Unexpected::Number(n) if self.is(Kind::Signed) => write!(f, "integer `{n}`"),
+            Unexpected::Number(x) => write!(f, "floating point `{x}`"),
+            Unexpected::Bool(b) => write!(f, "boolean `{b}`"),
+            Unexpected::Null => f.write_str("null"),
+            Unexpected::Datetime => f.write_str("datetime"),
+            Unexpected::Seq(_) => f.write_str("sequence"),
+            Unexpected::Map => f.write_str("map"),
         }
-    }
-}
-
-/// Returns a message about a name.
-fn named(alloc: Global, what: &str, name: &str, more: &str) -> Result<String, AllocError> {
-    format!(in alloc; "{what} `{name}`{more}")
-}
-
-/// Returns the message of a cause that says all.
-fn complete_message(cause: Cause, words: &str) -> &str {
-    match cause {
-        Cause::Message => words,
-        Cause::NoData => "invalid type: unit variant, expected a variant with data",
-        Cause::NoVariant => "wanted exactly 1 element, found 0 elements",
-        Cause::TwoVariants => "wanted exactly 1 element, more than 1 element",
-        Cause::NoMatch => "data did not match any variant of untagged enum",
-        _ => "invalid value",
     }
 }

@@ -1,80 +1,47 @@
-//! A format that passes each step on to another one and counts the steps: it tells where and why the reading of a value fails.
+//! A format that passes each step on to another one and counts the steps: it tells where and why
+//! the reading of a value fails.
 
 ghost use Rattle.std.specs.Prelude.{◌≡◌};
 ghost use Rattle.serde_trace.specs.declared.trace.Stop.TheVariants.{OutOfMemory};
 
 use crate::rejection::{Cause, Part, Rejection};
-use serde::{Case, Deserialize, DeserializeOwned, Deserializer, Format, Kind, Name, NameKind};
+use serde::{Deserialize, DeserializeOwned, Deserializer, Format, Kind, Name, NameKind};
 use std::alloc::{AllocError, Global};
-use std::fmt::InlineText;
 
 /// A value, or where and why a document does not contain it.
 #[derive(Drop)]
 pub struct Traced<T>(pub Result<T, Rejection>);
 
-/// A value that borrows nothing.
-#[derive(Drop)]
-pub struct Owned<T>(pub T);
-
-impl<'de, T: DeserializeOwned> Deserialize<'de> for Owned<T> {
-    fn deserialize<F: Format>(
-        alloc: Global,
-        from: &mut Deserializer<'de, '_, F>,
-    ) -> Result<Owned<T>, F::Error> {
-        Ok(Owned(T::deserialize_owned(alloc, from)?))
-    }
-}
-
-impl<T: DeserializeOwned> DeserializeOwned for Traced<Owned<T>> {
+impl<T: DeserializeOwned> DeserializeOwned for Traced<T> {
+    /// Reads a value step by step, and passes the rest of one that is rejected.
     fn deserialize_owned<F: Format>(
         alloc: Global,
         from: &mut Deserializer<'_, '_, F>,
-    ) -> Result<Traced<Owned<T>>, F::Error> {
-        Traced::deserialize(alloc, from)
-    }
-}
-
-impl<'de, T: Deserialize<'de>> Deserialize<'de> for Traced<T> {
-    /// Reads a value that is rejected once more, step by step, and passes the rest of the document.
-    fn deserialize<F: Format>(
-        alloc: Global,
-        from: &mut Deserializer<'de, '_, F>,
     ) -> Result<Traced<T>, F::Error> {
-        // A token is looked at, so that to pass the rest takes no memory.
-        from.peek()?;
         let start = from.mark();
-        let error = match T::deserialize(alloc, from) {
+        let mut trace = Trace::new(alloc, from);
+        let stop = match trace.read(alloc) {
             Ok(value) => {
+                drop(trace);
                 from.release(start);
                 return Ok(Traced(Ok(value)));
             }
-            Err(error) => error,
+            Err(stop) => stop,
         };
-        if from.is_fatal(&error) {
-            return Err(error);
-        }
+        let rejection = trace.rejection_of(stop)?;
         from.rewind(start);
-        let mut trace = Trace::new(alloc, from);
-        let Err(stop) = trace.read::<T>(alloc) else {
-            return Err(error);
-        };
-        let Some(rejection) = trace.rejection_of(stop)? else {
-            return Err(error);
-        };
+        from.skip()?;
         from.release(start);
-        pass_rest(from);
         Ok(Traced(Err(rejection)))
     }
 }
 
-/// Passes the tokens that are left: one that closes a sequence as its end, and any other as a key.
-fn pass_rest<F: Format>(from: &mut Deserializer<'_, '_, F>) {
-    for _ in 0..u64::MAX {
-        match from.next_item() {
-            Ok(true) => drop(from.next_key(&[])),
-            Ok(false) => {}
-            Err(_) => break,
-        }
+impl<'de, T: DeserializeOwned> Deserialize<'de> for Traced<T> {
+    fn deserialize<F: Format>(
+        alloc: Global,
+        from: &mut Deserializer<'de, '_, F>,
+    ) -> Result<Traced<T>, F::Error> {
+        Traced::deserialize_owned(alloc, from)
     }
 }
 
@@ -85,8 +52,6 @@ enum Stop {
     Fatal,
     OutOfMemory,
     At(Box<Rejection>),
-    /// The last variant is unknown.
-    Variant,
 }
 
 impl From<AllocError> for Stop {
@@ -97,215 +62,231 @@ impl From<AllocError> for Stop {
     }
 }
 
-/// The format of another deserializer.
+/// The format of another deserializer, and the steps so far.
 #[derive(Drop)]
 struct Trace<'a, 'de, 's, F: Format> {
+    alloc: Global,
     from: &'a mut Deserializer<'de, 's, F>,
     /// The last fatal error.
     fatal: Option<F::Error>,
-    steps: Steps,
-}
-
-/// The steps so far.
-#[derive(Drop)]
-struct Steps {
-    alloc: Global,
-    /// For each open map and sequence, how many entries or items have begun.
-    counts: Vec<usize>,
+    /// What is around the value, and the maps and sequences that are open.
+    levels: Vec<Level>,
     /// What of an entry or an item the last step has read, and what the next one reads.
     part: Part,
     next: Part,
-    /// Why the type rejects what has been read, if it does. It is `Long` if another item has begun.
-    cause: Cause,
-    /// The names that were expected in place of the last key, or the key that is missing.
-    words: String,
-    /// The keys that `rename_all` makes, of the maps in the current one.
-    renamed: Vec<Renamed>,
-    /// The last variant, if it is unknown.
-    variant: Option<Rejection>,
-    /// How many entries or items the map or sequence has that has ended last, and whether any key so far is unknown or read again.
-    ended: usize,
-    has_unknown: bool,
+    last: Last,
+    /// What is expected in place of the last key, if it is unknown.
+    expected: String,
+    /// The last variant that is unknown, and what is expected, until another string is read.
+    variant: Option<(Vec<usize>, Part, String)>,
 }
 
-/// A key that is not the name of its field, in a map where so many maps and sequences are open.
+/// An open map or sequence.
 #[derive(Drop)]
-struct Renamed {
-    open: usize,
-    name: String,
-    key: String,
+struct Level {
+    /// For each entry or item that has begun, the name that its key stands for, or `OTHER`.
+    keys: Vec<usize>,
+    /// The names that the maps in the last entry or item do not have, with their keys.
+    lacking: Vec<(String, String)>,
 }
 
-/// A position to come back to: that of the other format, the number of open maps and sequences, and the count of the last one.
+const OTHER: usize = usize::MAX;
+
+/// What the last step has read, as far as an error tells it.
+#[derive(Clone, Copy, Drop)]
+enum Last {
+    Value,
+    Integer,
+    /// The name of a variant.
+    Variant,
+    /// Nothing: no unit is next.
+    NoUnit,
+    /// The start of an entry or item.
+    Item,
+    /// A key in place of the end.
+    SecondKey,
+    /// The end in place of a key that names a variant, or of the only key.
+    NoVariant,
+    NoKey,
+    /// Nothing: it has gone back.
+    Start,
+}
+
+/// A position to come back to: that of the other format, and the number of keys in the last level.
 #[derive(Clone, Copy, Drop)]
 struct Back<M> {
     mark: M,
-    open: usize,
-    count: usize,
+    levels: usize,
+    keys: usize,
     next: Part,
 }
 
 impl<'a, 'de, 's, F: Format> Trace<'a, 'de, 's, F> {
     fn new(alloc: Global, from: &'a mut Deserializer<'de, 's, F>) -> Self {
         Trace {
+            alloc,
             from,
             fatal: None,
-            steps: Steps {
-                alloc,
-                counts: Vec::new(alloc),
-                part: Part::Value,
-                next: Part::Value,
-                cause: Cause::Invalid,
-                words: String::new(alloc),
-                renamed: Vec::new(alloc),
-                variant: None,
-                ended: 0,
-                has_unknown: false,
-            },
+            levels: Vec::new(alloc),
+            part: Part::Value,
+            next: Part::Value,
+            last: Last::Value,
+            expected: String::new(alloc),
+            variant: None,
         }
     }
 
-    fn read<T: Deserialize<'de>>(&mut self, alloc: Global) -> Result<T, Stop> {
-        T::deserialize(alloc, &mut Deserializer::new(&[], self))
+    fn read<T: DeserializeOwned>(&mut self, alloc: Global) -> Result<T, Stop> {
+        self.open()?;
+        T::deserialize_owned(alloc, &mut Deserializer::new(&[], self))
     }
 
-    /// Returns why the reading has ended, if the value is rejected.
-    fn rejection_of(self, stop: Stop) -> Result<Option<Rejection>, F::Error> {
-        let Trace { from, fatal, steps } = self;
-        match stop {
-            Stop::Fatal => fatal.map_or(Ok(None), Err),
-            Stop::OutOfMemory => Err(from.no_memory()),
-            Stop::At(rejection) => {
-                let rejection = Box::into_inner(rejection);
-                let is_borrowed = matches!(rejection.cause, Cause::Borrowed);
-                Ok((!is_borrowed).then_some(rejection))
-            }
-            Stop::Variant => Ok(steps.variant),
+    /// Returns where and why the value is rejected, or the error of the format.
+    fn rejection_of(self, stop: Stop) -> Result<Rejection, F::Error> {
+        match (stop, self.fatal) {
+            (Stop::At(rejection), _) => Ok(Box::into_inner(rejection)),
+            (_, Some(error)) => Err(error),
+            _ => Err(self.from.no_memory()),
         }
-    }
-
-    #[inline(never)]
-    fn failed(&mut self, error: F::Error, part: Part, cause: Cause, words: &str) -> Stop {
-        if self.from.is_fatal(&error) {
-            self.fatal = Some(error);
-            return Stop::Fatal;
-        }
-        self.steps.stop(part, cause, words)
-    }
-}
-
-impl Steps {
-    /// Reads what is next.
-    fn read(&mut self) {
-        (self.part, self.next, self.cause) = (self.next, Part::Value, Cause::Invalid);
-    }
-
-    /// Takes a unit, if there is one.
-    fn took(&mut self, is_taken: bool) -> bool {
-        if is_taken {
-            self.read();
-        } else {
-            (self.part, self.cause) = (self.next, Cause::NoUnit);
-        }
-        is_taken
     }
 
     /// Opens a map or a sequence.
     fn open(&mut self) -> Result<(), AllocError> {
-        Ok(self.counts.push(0)?)
+        let (keys, lacking) = (Vec::new(self.alloc), Vec::new(self.alloc));
+        Ok(self.levels.push(Level { keys, lacking })?)
     }
 
-    /// Returns an error at the current position.
-    fn stop(&self, part: Part, cause: Cause, words: &str) -> Stop {
-        match self.rejection(part, cause, words) {
-            Ok(rejection) => Box::new(self.alloc, rejection).map_or(Stop::OutOfMemory, Stop::At),
-            Err(_) => Stop::OutOfMemory,
+    /// Looks at what is next, and takes it perhaps.
+    fn look(&mut self, is_taken: bool) {
+        (self.part, self.last) = (self.next, Last::Value);
+        self.expected.clear();
+        if is_taken {
+            self.next = Part::Value;
         }
     }
 
-    fn rejection(&self, part: Part, cause: Cause, words: &str) -> Result<Rejection, AllocError> {
-        let mut path = Vec::new(self.alloc);
-        for count in &self.counts {
-            // In the last map or sequence, perhaps nothing has begun.
-            if *count > 0 {
-                path.push(*count - 1)?;
-            }
+    /// Begins another entry or item.
+    fn begin(&mut self, key: usize, part: Part, next: Part) -> Result<(), AllocError> {
+        (self.part, self.next, self.last) = (part, next, Last::Item);
+        self.expected.clear();
+        if let Some(level) = self.levels.last_mut() {
+            level.keys.push(key)?;
+            level.lacking.clear();
         }
-        if matches!(cause, Cause::Long) {
-            // It is the sequence that has an item too many.
-            path.pop();
-        }
-        let words = String::from_str(self.alloc, words)?;
-        Ok(Rejection {
-            path,
-            part,
-            cause,
-            words,
-        })
+        Ok(())
+    }
+
+    /// Closes the map or the sequence.
+    fn close(&mut self) -> Option<Level> {
+        (self.part, self.next, self.last) = (Part::Value, Part::Value, Last::Value);
+        self.levels.pop()
     }
 
     /// Begins another entry or item, or closes the map or the sequence.
-    fn pass(&mut self, is_more: bool, part: Part, next: Part) {
-        (self.part, self.next, self.cause) = (part, next, Cause::Invalid);
-        if !is_more {
-            (self.part, self.next) = (Part::Value, Part::Value);
-            self.ended = self.counts.pop().unwrap_or(0);
-            return;
+    fn pass(&mut self, is_more: bool, part: Part) -> Result<(), AllocError> {
+        if is_more {
+            self.begin(OTHER, part, part)?;
+        } else {
+            drop(self.close());
         }
-        if !self.renamed.is_empty() {
-            let open = self.counts.len();
-            self.renamed.retain(|renamed| renamed.open < open);
-        }
-        if let Some(count) = self.counts.last_mut() {
-            *count = count.saturating_add(1);
-        }
+        Ok(())
     }
 
-    /// Keeps what errors of the next key tell of these names. `found` is the key, or `None` at the end of the map.
-    fn keep(&mut self, found: Option<usize>, names: &[Name<'_>]) -> Result<(), AllocError> {
-        let are_variants = names.iter().any(|name| name.kind == NameKind::Variant);
-        match (found, names) {
-            (Some(_), []) => self.cause = Cause::TwoVariants,
-            (Some(_), _) if are_variants => self.keep_variant(names)?,
-            (Some(_), _) => {
-                self.has_unknown = true;
-                expect(names, "fields", &mut self.words)?;
+    /// Closes the map, and keeps which of these names it does not have.
+    fn close_map(&mut self, names: &[Name<'_>]) -> Result<(), AllocError> {
+        let (Some(map), false) = (self.close(), are_variants(names)) else {
+            self.last = Last::NoVariant;
+            return Ok(());
+        };
+        for (at, name) in names.iter().enumerate() {
+            if name.skipped || map.keys.contains(&at) {
+                continue;
             }
-            (None, _) if are_variants => (self.part, self.cause) = (Part::End, Cause::NoVariant),
-            (None, [name]) => {
-                (self.part, self.cause) = (Part::End, Cause::Missing);
-                self.words.clear();
-                name.case.append(name.kind, name.name, &mut self.words)?;
-                self.rename(names)?;
+            if names.len() == 1 {
+                self.last = Last::NoKey;
             }
-            (None, _) => self.rename(names)?,
+            let mut key = String::new(self.alloc);
+            name.case.append(name.kind, name.name, &mut key)?;
+            let name = self.text(name.name)?;
+            if let Some(level) = self.levels.last_mut() {
+                level.lacking.push((name, key))?;
+            }
+        }
+        Ok(())
+    }
+
+    /// Keeps that the last key stands for none of these names.
+    fn keep_unknown(&mut self, names: &[Name<'_>]) -> Result<(), AllocError> {
+        if names.is_empty() {
+            self.last = Last::SecondKey;
+        } else if are_variants(names) {
+            self.keep_variant(names)?;
+        } else {
+            expect(names, "fields", &mut self.expected)?;
         }
         Ok(())
     }
 
     /// Keeps that the last key or string is none of these variants.
     fn keep_variant(&mut self, names: &[Name<'_>]) -> Result<(), AllocError> {
-        expect(names, "variants", &mut self.words)?;
-        self.variant = Some(self.rejection(self.part, Cause::UnknownVariant, self.words.as_str())?);
+        let mut expected = String::new(self.alloc);
+        expect(names, "variants", &mut expected)?;
+        self.variant = Some((self.path(self.levels.len())?, self.part, expected));
         Ok(())
     }
 
-    /// Keeps the keys that are not the names of their fields, unless the map has them all.
-    fn rename(&mut self, names: &[Name<'_>]) -> Result<(), AllocError> {
-        if self.ended >= names.len() && !self.has_unknown {
-            return Ok(());
-        }
-        for name in names {
-            if !name.skipped && !matches!(name.case, Case::AsIs) {
-                let mut key = String::new(self.alloc);
-                name.case.append(name.kind, name.name, &mut key)?;
-                let name = String::from_str(self.alloc, name.name)?;
-                let open = self.counts.len();
-                self.renamed.push(Renamed { open, name, key })?;
+    /// Returns the path to what the last step has read in so many levels.
+    fn path(&self, levels: usize) -> Result<Vec<usize>, AllocError> {
+        let mut path = Vec::new(self.alloc);
+        for level in self.levels.iter().take(levels) {
+            // Around the value, and perhaps in the last level, nothing has begun.
+            if !level.keys.is_empty() {
+                path.push(level.keys.len() - 1)?;
             }
         }
-        Ok(())
+        Ok(path)
     }
+
+    fn text(&self, text: &str) -> Result<String, AllocError> {
+        String::from_str(self.alloc, text)
+    }
+
+    /// Returns this stop, or that for a fatal error.
+    fn failed(&mut self, error: F::Error, stop: Stop) -> Stop {
+        if self.from.is_fatal(&error) {
+            self.fatal = Some(error);
+            return Stop::Fatal;
+        }
+        stop
+    }
+
+    /// Returns an error at the current position.
+    fn stop(&self, part: Part, cause: Result<Cause, AllocError>) -> Stop {
+        self.stop_at(self.path(self.levels.len()), part, cause)
+    }
+
+    fn stop_at(
+        &self,
+        path: Result<Vec<usize>, AllocError>,
+        part: Part,
+        cause: Result<Cause, AllocError>,
+    ) -> Stop {
+        let (Ok(path), Ok(cause)) = (path, cause) else {
+            return Stop::OutOfMemory;
+        };
+        let rejection = Rejection { path, part, cause };
+        Box::new(self.alloc, rejection).map_or(Stop::OutOfMemory, Stop::At)
+    }
+
+    fn unexpected(&self, kind: Kind, expected: &str) -> Stop {
+        let cause = |expected| Cause::Expected(kind, expected);
+        self.stop(self.part, self.text(expected).map(cause))
+    }
+}
+
+/// Returns whether these names are those of variants.
+fn are_variants(names: &[Name<'_>]) -> bool {
+    names.iter().any(|name| name.kind == NameKind::Variant)
 }
 
 /// Replaces words by what is said of these names behind one that is unknown.
@@ -332,23 +313,31 @@ fn expect(names: &[Name<'_>], what: &str, words: &mut String) -> Result<(), Allo
 }
 
 /// Returns what a step of the other format has read, or that something else is expected.
-macro_rules! told {
-    ($self:ident.$step:ident($($argument:expr)?), $expected:expr) => {{
+macro_rules! read {
+    ($self:ident.$step:ident($($argument:expr)?), $kind:ident, $expected:expr) => {{
         let read = $self.from.$step($($argument)?);
-        $self.steps.read();
+        $self.look(true);
         match read {
             Ok(value) => Ok(value),
-            Err(error) => Err($self.failed(error, $self.steps.part, Cause::Expected, $expected)),
+            Err(error) => {
+                let stop = $self.unexpected(Kind::$kind, $expected);
+                Err($self.failed(error, stop))
+            }
         }
     }};
 }
 
-/// Returns what a step has seen that reads no value. In TOML, a table without the key of a variant is an error of such a step.
-macro_rules! seen {
+/// Returns what a step has seen that reads no value. In TOML, a table without the key of a variant
+/// is an error of such a step.
+macro_rules! see {
     ($self:ident.$step:ident($($argument:expr)?)) => {
         match $self.from.$step($($argument)?) {
             Ok(value) => Ok(value),
-            Err(error) => Err($self.failed(error, Part::End, Cause::NoVariant, "")),
+            Err(error) => {
+                $self.last = Last::NoVariant;
+                let stop = $self.invalid();
+                Err($self.failed(error, stop))
+            }
         }
     };
 }
@@ -359,155 +348,161 @@ impl<F: Format> Format for Trace<'_, '_, '_, F> {
     type Mark = Back<F::Mark>;
 
     fn bool(&mut self, _input: &[u8]) -> Result<bool, Stop> {
-        told!(self.bool(), "a boolean")
+        read!(self.bool(), Bool, "a boolean")
     }
 
     fn i64(&mut self, _input: &[u8]) -> Result<i64, Stop> {
-        let read = told!(self.i64(), "an integer");
-        self.steps.cause = Cause::Range;
+        let read = read!(self.i64(), Signed, "an integer");
+        self.last = Last::Integer;
         read
     }
 
     fn u64(&mut self, _input: &[u8]) -> Result<u64, Stop> {
-        let read = told!(self.u64(), "an integer");
-        self.steps.cause = Cause::Range;
+        let read = read!(self.u64(), Signed, "an integer");
+        self.last = Last::Integer;
         read
     }
 
     fn i128(&mut self, _input: &[u8]) -> Result<i128, Stop> {
-        told!(self.i128(), "an integer")
+        read!(self.i128(), Signed, "an integer")
     }
 
     fn u128(&mut self, _input: &[u8]) -> Result<u128, Stop> {
-        told!(self.u128(), "an integer")
+        read!(self.u128(), Signed, "an integer")
     }
 
     fn f32(&mut self, _input: &[u8]) -> Result<f32, Stop> {
-        told!(self.f32(), "f32")
+        read!(self.f32(), Float, "f32")
     }
 
     fn f64(&mut self, _input: &[u8]) -> Result<f64, Stop> {
-        told!(self.f64(), "f64")
+        read!(self.f64(), Float, "f64")
     }
 
     fn char(&mut self, _input: &[u8]) -> Result<char, Stop> {
-        told!(self.char(), "a character")
+        read!(self.char(), Str, "a character")
     }
 
+    // What borrows nothing never asks for this.
     fn plain_str(&mut self, _input: &[u8]) -> Result<(usize, usize), Stop> {
-        told!(self.borrowed_str(), "a borrowed string")?;
-        self.steps.cause = Cause::Borrowed;
-        Ok((0, 0))
+        Err(self.invalid())
     }
 
-    fn plain_bytes(&mut self, input: &[u8]) -> Result<(usize, usize), Stop> {
-        self.plain_str(input)
+    fn plain_bytes(&mut self, _input: &[u8]) -> Result<(usize, usize), Stop> {
+        Err(self.invalid())
     }
 
     fn string(&mut self, alloc: Global, _input: &[u8]) -> Result<String, Stop> {
-        told!(self.string(alloc), "a string")
+        self.variant = None;
+        read!(self.string(alloc), Str, "a string")
     }
 
     fn byte_buf(&mut self, alloc: Global, _input: &[u8]) -> Result<Vec<u8>, Stop> {
-        told!(self.byte_buf(alloc), "byte array")
+        read!(self.byte_buf(alloc), Bytes, "byte array")
     }
 
     fn peek(&mut self, _input: &[u8]) -> Result<Kind, Stop> {
-        seen!(self.peek())
+        let kind = see!(self.peek())?;
+        self.look(false);
+        Ok(kind)
     }
 
     fn take_unit(&mut self, _input: &[u8]) -> Result<bool, Stop> {
-        let is_taken = seen!(self.take_unit())?;
-        Ok(self.steps.took(is_taken))
+        let is_taken = see!(self.take_unit())?;
+        self.look(is_taken);
+        if !is_taken {
+            self.last = Last::NoUnit;
+        }
+        Ok(is_taken)
     }
 
     fn take_none(&mut self, _input: &[u8]) -> Result<bool, Stop> {
-        let is_taken = seen!(self.take_none())?;
-        Ok(self.steps.took(is_taken))
+        let is_taken = see!(self.take_none())?;
+        self.look(is_taken);
+        Ok(is_taken)
     }
 
     fn begin_seq(&mut self, _input: &[u8]) -> Result<(), Stop> {
-        told!(self.begin_seq(), "a sequence")?;
-        Ok(self.steps.open()?)
+        read!(self.begin_seq(), Seq, "a sequence")?;
+        Ok(self.open()?)
     }
 
     fn next_item(&mut self, _input: &[u8]) -> Result<bool, Stop> {
-        let is_more = seen!(self.next_item())?;
-        self.steps.pass(is_more, Part::Value, Part::Value);
-        if is_more {
-            self.steps.cause = Cause::Long;
-        }
+        let is_more = see!(self.next_item())?;
+        self.pass(is_more, Part::Value)?;
         Ok(is_more)
     }
 
     fn end_tuple(&mut self, _input: &[u8]) -> Result<(), Stop> {
-        if self.next_item(&[])? {
-            Err(self.wrong_len())
-        } else {
-            Ok(())
+        let end = self.from.expect_end();
+        self.pass(end.is_err(), Part::Value)?;
+        match end {
+            Ok(()) => Ok(()),
+            Err(error) => {
+                let stop = self.wrong_len();
+                Err(self.failed(error, stop))
+            }
         }
     }
 
     fn begin_struct(&mut self, _input: &[u8]) -> Result<bool, Stop> {
-        let is_seq = told!(self.begin_struct(), "a map")?;
-        self.steps.open()?;
+        let is_seq = read!(self.begin_struct(), Map, "a map")?;
+        self.open()?;
         Ok(is_seq)
     }
 
     fn begin_map(&mut self, _input: &[u8]) -> Result<(), Stop> {
-        told!(self.begin_map(), "a map")?;
-        Ok(self.steps.open()?)
+        read!(self.begin_map(), Map, "a map")?;
+        Ok(self.open()?)
     }
 
-    // In line, the names that a derive passes are constants, so the other format finds a key faster.
-    #[inline(always)]
     fn next_key(&mut self, _input: &[u8], names: &[Name<'_>]) -> Result<Option<usize>, Stop> {
-        let found = seen!(self.next_key(names))?;
-        self.steps.pass(found.is_some(), Part::Key, Part::Value);
+        let found = see!(self.next_key(names))?;
         match found {
-            Some(at) if at < names.len() => {}
-            _ => self.steps.keep(found, names)?,
+            Some(at) => self.begin(at, Part::Key, Part::Value)?,
+            None => self.close_map(names)?,
+        }
+        if found.is_some_and(|at| at >= names.len()) {
+            self.keep_unknown(names)?;
         }
         Ok(found)
     }
 
     fn next_entry(&mut self, _input: &[u8]) -> Result<bool, Stop> {
-        let is_more = seen!(self.next_entry())?;
-        self.steps.pass(is_more, Part::Key, Part::Key);
+        let is_more = see!(self.next_entry())?;
+        self.pass(is_more, Part::Key)?;
         Ok(is_more)
     }
 
     fn variant(&mut self, _input: &[u8], names: &[Name<'_>]) -> Result<usize, Stop> {
-        let found = told!(self.variant(names), "variant identifier")?;
-        self.steps.cause = Cause::NoData;
+        let found = read!(self.variant(names), Str, "variant identifier")?;
+        self.last = Last::Variant;
         if found >= names.len() {
-            self.steps.keep_variant(names)?;
+            self.keep_variant(names)?;
         }
         Ok(found)
     }
 
     fn skip(&mut self, _input: &[u8]) -> Result<(), Stop> {
-        told!(self.skip(), "a value")
+        read!(self.skip(), Unit, "a value")
     }
 
     fn mark(&mut self) -> Back<F::Mark> {
         Back {
             mark: self.from.mark(),
-            open: self.steps.counts.len(),
-            count: self.steps.counts.last().copied().unwrap_or(0),
-            next: self.steps.next,
+            levels: self.levels.len(),
+            keys: self.levels.last().map_or(0, |level| level.keys.len()),
+            next: self.next,
         }
     }
 
     fn rewind(&mut self, mark: Back<F::Mark>) {
         self.from.rewind(mark.mark);
-        let steps = &mut self.steps;
-        steps.has_unknown = true;
-        steps.counts.truncate(mark.open);
-        (steps.part, steps.next, steps.cause) = (mark.next, mark.next, Cause::NoMatch);
-        if let Some(count) = steps.counts.last_mut() {
-            *count = mark.count;
+        self.levels.truncate(mark.levels);
+        if let Some(level) = self.levels.last_mut() {
+            level.keys.truncate(mark.keys);
         }
+        (self.part, self.next, self.last) = (mark.next, mark.next, Last::Start);
     }
 
     fn release(&mut self, mark: Back<F::Mark>) {
@@ -515,54 +510,76 @@ impl<F: Format> Format for Trace<'_, '_, '_, F> {
     }
 
     fn is_fatal(&self, stop: &Stop) -> bool {
-        match stop {
-            Stop::At(rejection) => matches!(rejection.cause, Cause::Borrowed),
-            Stop::Fatal | Stop::OutOfMemory => true,
-            Stop::Variant => false,
-        }
+        !matches!(stop, Stop::At(_))
     }
 
     fn missing(&self, name: &str) -> Stop {
-        let steps = &self.steps;
-        for renamed in &steps.renamed {
-            if renamed.open == steps.counts.len() && renamed.name.as_str() == name {
-                return steps.stop(Part::End, Cause::Missing, renamed.key.as_str());
+        let mut key = name;
+        if let Some(level) = self.levels.last() {
+            for lacking in &level.lacking {
+                if lacking.0.as_str() == name {
+                    key = lacking.1.as_str();
+                }
             }
         }
-        steps.stop(Part::End, Cause::Missing, name)
+        self.stop(Part::End, self.text(key).map(Cause::Missing))
     }
 
     fn duplicate(&self, _name: &str) -> Stop {
-        self.steps.stop(Part::Key, Cause::Duplicate, "")
+        let mut open = self.levels.len();
+        for (around, level) in self.levels.iter().enumerate() {
+            if let Some((key, before)) = level.keys.split_last() {
+                if *key != OTHER && before.contains(key) {
+                    open = around.saturating_add(1);
+                }
+            }
+        }
+        self.stop_at(self.path(open), Part::Key, Ok(Cause::Duplicate))
     }
 
     fn unknown_key(&self) -> Stop {
-        self.steps
-            .stop(Part::Key, Cause::UnknownField, self.steps.words.as_str())
+        let expected = self.text(self.expected.as_str());
+        self.stop(Part::Key, expected.map(Cause::UnknownField))
     }
 
     fn unknown_variant(&self) -> Stop {
-        Stop::Variant
+        let Some((path, part, expected)) = &self.variant else {
+            return self.stop(self.part, self.text("").map(Cause::UnknownVariant));
+        };
+        let cause = self.text(expected.as_str()).map(Cause::UnknownVariant);
+        self.stop_at(Vec::from_slice(self.alloc, path), *part, cause)
     }
 
     fn wrong_len(&self) -> Stop {
-        match (self.steps.cause, self.steps.counts.last()) {
-            (Cause::Long, Some(count)) => {
-                let size = count.saturating_sub(1);
-                let words = InlineText::<60>::of(", expected a tuple of size ").and(size, 20);
-                self.steps.stop(Part::Value, Cause::Long, words.as_str())
+        match (self.last, self.levels.last()) {
+            (Last::Item, Some(level)) => {
+                // It is the sequence that has an item too many.
+                let path = self.path(self.levels.len().saturating_sub(1));
+                let cause = Cause::Long(level.keys.len().saturating_sub(1));
+                self.stop_at(path, Part::Value, Ok(cause))
             }
-            _ => self.steps.stop(Part::Value, Cause::Length, ""),
+            _ => self.stop(Part::Value, Ok(Cause::Length)),
         }
     }
 
     fn invalid(&self) -> Stop {
-        let cause = match self.steps.cause {
-            Cause::Long => Cause::Invalid,
-            cause => cause,
+        let message = match self.last {
+            Last::Integer => return self.stop(self.part, Ok(Cause::Range)),
+            Last::NoUnit => return self.unexpected(Kind::Unit, "unit"),
+            Last::NoKey => {
+                let lacking = self.levels.last().and_then(|level| level.lacking.last());
+                return self.missing(lacking.map_or("", |names| names.0.as_str()));
+            }
+            Last::NoVariant => {
+                let message = self.text("wanted exactly 1 element, found 0 elements");
+                return self.stop(Part::End, message.map(Cause::Message));
+            }
+            Last::SecondKey => "wanted exactly 1 element, more than 1 element",
+            Last::Variant => "invalid type: unit variant, expected a variant with data",
+            Last::Start => "data did not match any variant of untagged enum",
+            Last::Value | Last::Item => "",
         };
-        self.steps
-            .stop(self.steps.part, cause, self.steps.words.as_str())
+        self.custom(message)
     }
 
     fn no_memory(&self) -> Stop {
@@ -570,11 +587,6 @@ impl<F: Format> Format for Trace<'_, '_, '_, F> {
     }
 
     fn custom(&self, message: &str) -> Stop {
-        let cause = match self.steps.cause {
-            Cause::Borrowed => Cause::Borrowed,
-            _ if message.is_empty() => Cause::Invalid,
-            _ => Cause::Message,
-        };
-        self.steps.stop(self.steps.part, cause, message)
+        self.stop(self.part, self.text(message).map(Cause::Message))
     }
 }
