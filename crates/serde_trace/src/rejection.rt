@@ -72,7 +72,7 @@ pub enum Cause {
     /// This key is missing.
     Missing(String),
     Duplicate,
-    /// What is expected behind the name of the field or of the variant.
+    /// What is expected, as it is said after the name of the field or of the variant.
     UnknownField(String),
     UnknownVariant(String),
     /// It is a sequence with the wrong number of items, or with more than this.

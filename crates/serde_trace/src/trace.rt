@@ -2,6 +2,7 @@
 //! the reading of a value fails.
 
 ghost use Rattle.std.specs.Prelude.{◌≡◌};
+ghost use Rattle.serde.specs.Steps.{Gives, Picks, Stays};
 ghost use Rattle.serde_trace.specs.declared.trace.Stop.TheVariants.{OutOfMemory};
 
 use crate::rejection::{Cause, Part, Rejection};
@@ -84,13 +85,23 @@ struct Trace<'a, 'de, 's, F: Format> {
 /// An open map or sequence.
 #[derive(Drop)]
 struct Level {
-    /// For each entry or item that has begun, the name that its key stands for, or `OTHER`.
-    keys: Vec<usize>,
+    /// One for each entry or item that has begun.
+    keys: Vec<Key>,
     /// The names that the maps in the last entry or item do not have, with their keys.
     lacking: Vec<(String, String)>,
+    /// Whether it is read after going back.
+    is_again: bool,
 }
 
-const OTHER: usize = usize::MAX;
+/// What the key of an entry stands for.
+#[derive(Clone, Copy, PartialEq, Eq, Drop)]
+enum Key {
+    /// No name that is asked for, or an item.
+    Other,
+    Name(usize),
+    /// A name that an earlier key stands for, too.
+    Again(usize),
+}
 
 /// What the last step has read, as far as an error tells it.
 #[derive(Clone, Copy, Drop)]
@@ -105,9 +116,9 @@ enum Last {
     Item,
     /// A key in place of the end.
     SecondKey,
-    /// The end in place of a key that names a variant, or of the only key.
+    /// The end in place of a key that names a variant, or of the key of its content.
     NoVariant,
-    NoKey,
+    NoContent,
     /// Nothing: it has gone back.
     Start,
 }
@@ -137,7 +148,7 @@ impl<'a, 'de, 's, F: Format> Trace<'a, 'de, 's, F> {
     }
 
     fn read<T: DeserializeOwned>(&mut self, alloc: Global) -> Result<T, Stop> {
-        self.open()?;
+        self.open(false)?;
         T::deserialize_owned(alloc, &mut Deserializer::new(&[], self))
     }
 
@@ -151,22 +162,31 @@ impl<'a, 'de, 's, F: Format> Trace<'a, 'de, 's, F> {
     }
 
     /// Opens a map or a sequence.
-    fn open(&mut self) -> Result<(), AllocError> {
+    fn open(&mut self, is_again: bool) -> Result<(), AllocError>
+        ensures { self.new.from ≡ self.old.from }
+    {
         let (keys, lacking) = (Vec::new(self.alloc), Vec::new(self.alloc));
-        Ok(self.levels.push(Level { keys, lacking })?)
+        Ok(
+            self.levels.push(Level {
+                keys,
+                lacking,
+                is_again,
+            })?,
+        )
     }
 
-    /// Looks at what is next, and takes it perhaps.
-    fn look(&mut self, is_taken: bool) {
+    /// Looks at what is next.
+    fn look(&mut self)
+        ensures { self.new.from ≡ self.old.from }
+    {
         (self.part, self.last) = (self.next, Last::Value);
         self.expected.clear();
-        if is_taken {
-            self.next = Part::Value;
-        }
     }
 
     /// Begins another entry or item.
-    fn begin(&mut self, key: usize, part: Part, next: Part) -> Result<(), AllocError> {
+    fn begin(&mut self, key: Key, part: Part, next: Part) -> Result<(), AllocError>
+        ensures { self.new.from ≡ self.old.from }
+    {
         (self.part, self.next, self.last) = (part, next, Last::Item);
         self.expected.clear();
         if let Some(level) = self.levels.last_mut() {
@@ -176,16 +196,33 @@ impl<'a, 'de, 's, F: Format> Trace<'a, 'de, 's, F> {
         Ok(())
     }
 
+    /// Returns the key of another entry that stands for this name.
+    fn key_of(&self, name: usize) -> Key {
+        if let Some(level) = self.levels.last() {
+            // From the last one on: of a name that comes often, each is passed over once.
+            for key in level.keys.iter().rev() {
+                if *key == Key::Name(name) || *key == Key::Again(name) {
+                    return Key::Again(name);
+                }
+            }
+        }
+        Key::Name(name)
+    }
+
     /// Closes the map or the sequence.
-    fn close(&mut self) -> Option<Level> {
+    fn close(&mut self) -> Option<Level>
+        ensures { self.new.from ≡ self.old.from }
+    {
         (self.part, self.next, self.last) = (Part::Value, Part::Value, Last::Value);
         self.levels.pop()
     }
 
     /// Begins another entry or item, or closes the map or the sequence.
-    fn pass(&mut self, is_more: bool, part: Part) -> Result<(), AllocError> {
+    fn pass(&mut self, is_more: bool, part: Part) -> Result<(), AllocError>
+        ensures { self.new.from ≡ self.old.from }
+    {
         if is_more {
-            self.begin(OTHER, part, part)?;
+            self.begin(Key::Other, part, part)?;
         } else {
             drop(self.close());
         }
@@ -193,17 +230,20 @@ impl<'a, 'de, 's, F: Format> Trace<'a, 'de, 's, F> {
     }
 
     /// Closes the map, and keeps which of these names it does not have.
-    fn close_map(&mut self, names: &[Name<'_>]) -> Result<(), AllocError> {
+    fn close_map(&mut self, names: &[Name<'_>]) -> Result<(), AllocError>
+        ensures { self.new.from ≡ self.old.from }
+    {
         let (Some(map), false) = (self.close(), are_variants(names)) else {
             self.last = Last::NoVariant;
             return Ok(());
         };
         for (at, name) in names.iter().enumerate() {
-            if name.skipped || map.keys.contains(&at) {
+            if name.skipped || map.keys.contains(&Key::Name(at)) {
                 continue;
             }
-            if names.len() == 1 {
-                self.last = Last::NoKey;
+            // The content of a variant is looked for after its tag, by a name alone.
+            if names.len() == 1 && map.is_again {
+                self.last = Last::NoContent;
             }
             let mut key = String::new(self.alloc);
             name.case.append(name.kind, name.name, &mut key)?;
@@ -216,19 +256,23 @@ impl<'a, 'de, 's, F: Format> Trace<'a, 'de, 's, F> {
     }
 
     /// Keeps that the last key stands for none of these names.
-    fn keep_unknown(&mut self, names: &[Name<'_>]) -> Result<(), AllocError> {
+    fn keep_unknown(&mut self, names: &[Name<'_>]) -> Result<(), AllocError>
+        ensures { self.new.from ≡ self.old.from }
+    {
         if names.is_empty() {
             self.last = Last::SecondKey;
-        } else if are_variants(names) {
-            self.keep_variant(names)?;
-        } else {
-            expect(names, "fields", &mut self.expected)?;
         }
-        Ok(())
+        if are_variants(names) {
+            self.keep_variant(names)
+        } else {
+            expect(names, "fields", &mut self.expected)
+        }
     }
 
     /// Keeps that the last key or string is none of these variants.
-    fn keep_variant(&mut self, names: &[Name<'_>]) -> Result<(), AllocError> {
+    fn keep_variant(&mut self, names: &[Name<'_>]) -> Result<(), AllocError>
+        ensures { self.new.from ≡ self.old.from }
+    {
         let mut expected = String::new(self.alloc);
         expect(names, "variants", &mut expected)?;
         self.variant = Some((self.path(self.levels.len())?, self.part, expected));
@@ -240,8 +284,8 @@ impl<'a, 'de, 's, F: Format> Trace<'a, 'de, 's, F> {
         let mut path = Vec::new(self.alloc);
         for level in self.levels.iter().take(levels) {
             // Around the value, and perhaps in the last level, nothing has begun.
-            if !level.keys.is_empty() {
-                path.push(level.keys.len() - 1)?;
+            if let Some(number) = level.keys.len().checked_sub(1) {
+                path.push(number)?;
             }
         }
         Ok(path)
@@ -278,6 +322,11 @@ impl<'a, 'de, 's, F: Format> Trace<'a, 'de, 's, F> {
         Box::new(self.alloc, rejection).map_or(Stop::OutOfMemory, Stop::At)
     }
 
+    fn no_variant(&self) -> Stop {
+        let message = self.text("wanted exactly 1 element, found 0 elements");
+        self.stop(Part::End, message.map(Cause::Message))
+    }
+
     fn unexpected(&self, kind: Kind, expected: &str) -> Stop {
         let cause = |expected| Cause::Expected(kind, expected);
         self.stop(self.part, self.text(expected).map(cause))
@@ -289,7 +338,7 @@ fn are_variants(names: &[Name<'_>]) -> bool {
     names.iter().any(|name| name.kind == NameKind::Variant)
 }
 
-/// Replaces words by what is said of these names behind one that is unknown.
+/// Replaces words by what is said of these names after one that is unknown.
 fn expect(names: &[Name<'_>], what: &str, words: &mut String) -> Result<(), AllocError> {
     words.clear();
     let (mut before, next) = match names.iter().filter(|name| !name.skipped).count() {
@@ -316,7 +365,8 @@ fn expect(names: &[Name<'_>], what: &str, words: &mut String) -> Result<(), Allo
 macro_rules! read {
     ($self:ident.$step:ident($($argument:expr)?), $kind:ident, $expected:expr) => {{
         let read = $self.from.$step($($argument)?);
-        $self.look(true);
+        $self.look();
+        $self.next = Part::Value;
         match read {
             Ok(value) => Ok(value),
             Err(error) => {
@@ -327,19 +377,27 @@ macro_rules! read {
     }};
 }
 
-/// Returns what a step has seen that reads no value. In TOML, a table without the key of a variant
-/// is an error of such a step.
+/// Returns what `read` does of a value that names no variant for later.
+macro_rules! take {
+    ($self:ident.$($step:tt)*) => {{
+        $self.variant = None;
+        read!($self.$($step)*)
+    }};
+}
+
+/// Returns what a step has seen that reads no value.
 macro_rules! see {
-    ($self:ident.$step:ident($($argument:expr)?)) => {
-        match $self.from.$step($($argument)?) {
+    ($self:ident.$step:ident()) => {{
+        let seen = $self.from.$step();
+        $self.look();
+        match seen {
             Ok(value) => Ok(value),
             Err(error) => {
-                $self.last = Last::NoVariant;
-                let stop = $self.invalid();
+                let stop = $self.custom("");
                 Err($self.failed(error, stop))
             }
         }
-    };
+    }};
 }
 
 impl<F: Format> Format for Trace<'_, '_, '_, F> {
@@ -347,40 +405,47 @@ impl<F: Format> Format for Trace<'_, '_, '_, F> {
 
     type Mark = Back<F::Mark>;
 
+    ghost gives = { λ old _ event new. Gives F.gives old.from.now event new.from.now };
+
+    ghost picks = { λ old _ is_key names at new.
+        Picks F.picks old.from.now is_key names at new.from.now };
+
+    ghost stays = { λ old new. Stays F.stays old.from.now new.from.now };
+
     fn bool(&mut self, _input: &[u8]) -> Result<bool, Stop> {
-        read!(self.bool(), Bool, "a boolean")
+        take!(self.bool(), Bool, "a boolean")
     }
 
     fn i64(&mut self, _input: &[u8]) -> Result<i64, Stop> {
-        let read = read!(self.i64(), Signed, "an integer");
+        let value = take!(self.i64(), Signed, "an integer")?;
         self.last = Last::Integer;
-        read
+        Ok(value)
     }
 
     fn u64(&mut self, _input: &[u8]) -> Result<u64, Stop> {
-        let read = read!(self.u64(), Signed, "an integer");
+        let value = take!(self.u64(), Signed, "an integer")?;
         self.last = Last::Integer;
-        read
+        Ok(value)
     }
 
     fn i128(&mut self, _input: &[u8]) -> Result<i128, Stop> {
-        read!(self.i128(), Signed, "an integer")
+        take!(self.i128(), Signed, "an integer")
     }
 
     fn u128(&mut self, _input: &[u8]) -> Result<u128, Stop> {
-        read!(self.u128(), Signed, "an integer")
+        take!(self.u128(), Signed, "an integer")
     }
 
     fn f32(&mut self, _input: &[u8]) -> Result<f32, Stop> {
-        read!(self.f32(), Float, "f32")
+        take!(self.f32(), Float, "f32")
     }
 
     fn f64(&mut self, _input: &[u8]) -> Result<f64, Stop> {
-        read!(self.f64(), Float, "f64")
+        take!(self.f64(), Float, "f64")
     }
 
     fn char(&mut self, _input: &[u8]) -> Result<char, Stop> {
-        read!(self.char(), Str, "a character")
+        take!(self.char(), Str, "a character")
     }
 
     // What borrows nothing never asks for this.
@@ -393,24 +458,22 @@ impl<F: Format> Format for Trace<'_, '_, '_, F> {
     }
 
     fn string(&mut self, alloc: Global, _input: &[u8]) -> Result<String, Stop> {
-        self.variant = None;
-        read!(self.string(alloc), Str, "a string")
+        take!(self.string(alloc), Str, "a string")
     }
 
     fn byte_buf(&mut self, alloc: Global, _input: &[u8]) -> Result<Vec<u8>, Stop> {
-        read!(self.byte_buf(alloc), Bytes, "byte array")
+        take!(self.byte_buf(alloc), Bytes, "byte array")
     }
 
     fn peek(&mut self, _input: &[u8]) -> Result<Kind, Stop> {
-        let kind = see!(self.peek())?;
-        self.look(false);
-        Ok(kind)
+        see!(self.peek())
     }
 
     fn take_unit(&mut self, _input: &[u8]) -> Result<bool, Stop> {
         let is_taken = see!(self.take_unit())?;
-        self.look(is_taken);
-        if !is_taken {
+        if is_taken {
+            self.next = Part::Value;
+        } else {
             self.last = Last::NoUnit;
         }
         Ok(is_taken)
@@ -418,13 +481,15 @@ impl<F: Format> Format for Trace<'_, '_, '_, F> {
 
     fn take_none(&mut self, _input: &[u8]) -> Result<bool, Stop> {
         let is_taken = see!(self.take_none())?;
-        self.look(is_taken);
+        if is_taken {
+            self.next = Part::Value;
+        }
         Ok(is_taken)
     }
 
     fn begin_seq(&mut self, _input: &[u8]) -> Result<(), Stop> {
-        read!(self.begin_seq(), Seq, "a sequence")?;
-        Ok(self.open()?)
+        take!(self.begin_seq(), Seq, "a sequence")?;
+        Ok(self.open(false)?)
     }
 
     fn next_item(&mut self, _input: &[u8]) -> Result<bool, Stop> {
@@ -446,24 +511,35 @@ impl<F: Format> Format for Trace<'_, '_, '_, F> {
     }
 
     fn begin_struct(&mut self, _input: &[u8]) -> Result<bool, Stop> {
-        let is_seq = read!(self.begin_struct(), Map, "a map")?;
-        self.open()?;
+        let is_seq = take!(self.begin_struct(), Map, "a map")?;
+        self.open(false)?;
         Ok(is_seq)
     }
 
     fn begin_map(&mut self, _input: &[u8]) -> Result<(), Stop> {
+        let is_again = matches!(self.last, Last::Start);
         read!(self.begin_map(), Map, "a map")?;
-        Ok(self.open()?)
+        Ok(self.open(is_again)?)
     }
 
     fn next_key(&mut self, _input: &[u8], names: &[Name<'_>]) -> Result<Option<usize>, Stop> {
-        let found = see!(self.next_key(names))?;
+        let found = match self.from.next_key(names) {
+            Ok(found) => found,
+            Err(error) => {
+                let stop = self.no_variant();
+                return Err(self.failed(error, stop));
+            }
+        };
         match found {
-            Some(at) => self.begin(at, Part::Key, Part::Value)?,
+            Some(at) if at < names.len() => {
+                let key = self.key_of(at);
+                self.begin(key, Part::Key, Part::Value)?;
+            }
+            Some(_) => {
+                self.begin(Key::Other, Part::Key, Part::Value)?;
+                self.keep_unknown(names)?;
+            }
             None => self.close_map(names)?,
-        }
-        if found.is_some_and(|at| at >= names.len()) {
-            self.keep_unknown(names)?;
         }
         Ok(found)
     }
@@ -475,7 +551,7 @@ impl<F: Format> Format for Trace<'_, '_, '_, F> {
     }
 
     fn variant(&mut self, _input: &[u8], names: &[Name<'_>]) -> Result<usize, Stop> {
-        let found = read!(self.variant(names), Str, "variant identifier")?;
+        let found = take!(self.variant(names), Str, "variant identifier")?;
         self.last = Last::Variant;
         if found >= names.len() {
             self.keep_variant(names)?;
@@ -484,6 +560,12 @@ impl<F: Format> Format for Trace<'_, '_, '_, F> {
     }
 
     fn skip(&mut self, _input: &[u8]) -> Result<(), Stop> {
+        if let (Part::Key, Some(level)) = (self.part, self.levels.last_mut()) {
+            // Of the types that share a map, each skips the entries that others have read.
+            if let Some(key) = level.keys.last_mut() {
+                *key = Key::Other;
+            }
+        }
         read!(self.skip(), Unit, "a value")
     }
 
@@ -496,17 +578,18 @@ impl<F: Format> Format for Trace<'_, '_, '_, F> {
         }
     }
 
-    fn rewind(&mut self, mark: Back<F::Mark>) {
-        self.from.rewind(mark.mark);
-        self.levels.truncate(mark.levels);
+    fn rewind(&mut self, back: Back<F::Mark>) {
+        self.from.rewind(back.mark);
+        self.levels.truncate(back.levels);
         if let Some(level) = self.levels.last_mut() {
-            level.keys.truncate(mark.keys);
+            level.keys.truncate(back.keys);
         }
-        (self.part, self.next, self.last) = (mark.next, mark.next, Last::Start);
+        (self.part, self.next, self.last) = (back.next, back.next, Last::Start);
+        self.expected.clear();
     }
 
-    fn release(&mut self, mark: Back<F::Mark>) {
-        self.from.release(mark.mark)
+    fn release(&mut self, back: Back<F::Mark>) {
+        self.from.release(back.mark)
     }
 
     fn is_fatal(&self, stop: &Stop) -> bool {
@@ -526,15 +609,13 @@ impl<F: Format> Format for Trace<'_, '_, '_, F> {
     }
 
     fn duplicate(&self, _name: &str) -> Stop {
-        let mut open = self.levels.len();
         for (around, level) in self.levels.iter().enumerate() {
-            if let Some((key, before)) = level.keys.split_last() {
-                if *key != OTHER && before.contains(key) {
-                    open = around.saturating_add(1);
-                }
+            if let Some(Key::Again(_)) = level.keys.last() {
+                let path = self.path(around.saturating_add(1));
+                return self.stop_at(path, Part::Key, Ok(Cause::Duplicate));
             }
         }
-        self.stop_at(self.path(open), Part::Key, Ok(Cause::Duplicate))
+        self.stop(Part::Key, Ok(Cause::Duplicate))
     }
 
     fn unknown_key(&self) -> Stop {
@@ -566,14 +647,11 @@ impl<F: Format> Format for Trace<'_, '_, '_, F> {
         let message = match self.last {
             Last::Integer => return self.stop(self.part, Ok(Cause::Range)),
             Last::NoUnit => return self.unexpected(Kind::Unit, "unit"),
-            Last::NoKey => {
+            Last::NoContent => {
                 let lacking = self.levels.last().and_then(|level| level.lacking.last());
                 return self.missing(lacking.map_or("", |names| names.0.as_str()));
             }
-            Last::NoVariant => {
-                let message = self.text("wanted exactly 1 element, found 0 elements");
-                return self.stop(Part::End, message.map(Cause::Message));
-            }
+            Last::NoVariant => return self.no_variant(),
             Last::SecondKey => "wanted exactly 1 element, more than 1 element",
             Last::Variant => "invalid type: unit variant, expected a variant with data",
             Last::Start => "data did not match any variant of untagged enum",
