@@ -2,9 +2,11 @@
 #![tactic(auto)]
 
 mod attributes;
+mod config_parts;
 mod documents;
 mod drawn;
 mod printed;
 mod refused;
 pub(crate) mod support;
+mod types;
 mod values;

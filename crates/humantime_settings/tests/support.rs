@@ -14,11 +14,14 @@ pub(crate) type Read = fn(Global, &str) -> Option<SettingsError>;
 /// Returns the functions that read a document as a type, in TOML and in JSON.
 macro_rules! reads {
     ($type:ty) => {{
-        let toml: crate::support::Read = |alloc, text| humantime_settings::from_toml::<$type>(alloc, text).err();
-        let json: crate::support::Read = |alloc, text| humantime_settings::from_json::<$type>(alloc, text).err();
+        let toml: crate::support::Read =
+            |alloc, text| humantime_settings::from_toml::<$type>(alloc, text).err();
+        let json: crate::support::Read =
+            |alloc, text| humantime_settings::from_json::<$type>(alloc, text).err();
         [toml, json]
     }};
 }
+
 pub(crate) use reads;
 
 /// A message, and documents with this error. It begins at `^`, and ends at a second one, if its end
@@ -27,7 +30,11 @@ pub(crate) type Row<'a> = (&'a str, &'a [&'a str]);
 
 /// Returns a text with what names in it stand for, and each `«text*count»` as this text repeated,
 /// with the number of each for `#`.
-pub(crate) fn filled(rt: &impl AllocGlobal, text: &str, names: &[(&str, &str)]) -> Result<String, Fail> {
+pub(crate) fn filled(
+    rt: &impl AllocGlobal,
+    text: &str,
+    names: &[(&str, &str)],
+) -> Result<String, Fail> {
     let (alloc, mut named) = (rt.alloc(), String::from_str(rt.alloc(), text)?);
     for (name, meaning) in names {
         named = named.replace(alloc, *name, *meaning)?;
@@ -46,37 +53,78 @@ pub(crate) fn filled(rt: &impl AllocGlobal, text: &str, names: &[(&str, &str)]) 
 
 /// Returns the second function for a document that begins with a brace, and else the first.
 pub(crate) fn reader([toml, json]: [Read; 2], document: &str) -> Read {
-    if document.trim_start_matches('^').starts_with('{') { json } else { toml }
+    if document.trim_start_matches(['^', '\n']).starts_with('{') {
+        json
+    } else {
+        toml
+    }
 }
 
-/// Asserts that each document has its error.
-pub(crate) fn assert_errors(rt: &(impl Abort + AllocGlobal), reads: [Read; 2], names: &[(&str, &str)], rows: &[Row<'_>]) -> Result<(), Fail> {
+/// Asserts that each document has its error, and names all that have another one.
+pub(crate) fn assert_errors(
+    rt: &(impl Abort + AllocGlobal),
+    reads: [Read; 2],
+    names: &[(&str, &str)],
+    rows: &[Row<'_>],
+) -> Result<(), Fail> {
+    let mut wrong = String::new(rt.alloc());
     for (message, documents) in rows {
         let message = filled(rt, message, names)?;
         for document in *documents {
             let document = filled(rt, document, names)?;
-            assert_eq!(rt; message_at(rt, reader(reads, &document), &document)?, message, "{document}");
+            let read = reader(reads, &document);
+            wrong.push_str(&difference(rt, read, &document, Some(&message))?)?;
         }
     }
+    assert!(rt; wrong.is_empty(), "{wrong}");
     Ok(())
 }
 
-/// Asserts that a document has an error where it is marked, and returns the message.
-pub(crate) fn message_at(rt: &(impl Abort + AllocGlobal), read: Read, document: &str) -> Result<String, Fail> {
+/// Returns how the error of a document differs from the one that is marked in it and, if it is
+/// known, its message: a line each of what is found and what is wanted, or nothing.
+pub(crate) fn difference(
+    rt: &impl AllocGlobal,
+    read: Read,
+    document: &str,
+    message: Option<&str>,
+) -> Result<String, Fail> {
+    let alloc = rt.alloc();
     let (front, rest) = document.split_once('^').ok_or("no mark")?;
     let (marked, back) = rest.split_once('^').unwrap_or(("", rest));
-    let read_as = read(rt.alloc(), &format!(in rt.alloc(); "{front}{marked}{back}")?);
-    let Some(error) = read_as else {
-        panic!(rt; "read {document}");
-    };
-    let SettingsError::At { offset, part, .. } = &error else {
-        panic!(rt; "{error:?} {document}");
-    };
-    let line = front.matches('\n').count() + 1;
-    let column = front.rsplit('\n').next().unwrap_or("").chars().filter(|c| *c != '\u{feff}').count() + 1;
+    let text = format!(in alloc; "{front}{marked}{back}")?;
+    let error = read(alloc, &text);
     // A mark ends with its line.
-    let marked = marked.lines().next().unwrap_or("");
-    assert_eq!(rt; (*offset, part.as_str()), (front.len(), marked), "{document}");
-    assert_eq!(rt; (error.line(), error.column()), (Some(line), Some(column)), "{document}");
-    Ok(String::from_str(rt.alloc(), error.message())?)
+    let part = marked.lines().next().unwrap_or("");
+    let last_line = front.rsplit('\n').next().unwrap_or("");
+    let column = last_line.chars().filter(|c| *c != '\u{feff}').count() + 1;
+    let (line, start) = (front.matches('\n').count() + 1, front.len());
+    let found = match &error {
+        Some(
+            SettingsError::At {
+                offset,
+                line,
+                part,
+                message,
+                ..
+            },
+        ) => {
+            let place = (
+                *offset,
+                part.as_str(),
+                *line,
+                error.as_ref().and_then(SettingsError::column),
+            );
+            format!(in alloc; "{place:?} {message}")?
+        }
+        other => format!(in alloc; "{other:?}")?,
+    };
+    let message = match (message, &error) {
+        (None, Some(error)) => error.message(),
+        (message, _) => message.unwrap_or("an error"),
+    };
+    let wanted = format!(in alloc; "{:?} {message}", (start, part, line, Some(column)))?;
+    if found == wanted {
+        return Ok(String::new(alloc));
+    }
+    Ok(format!(in alloc; "\n{document}\n  is:     {found}\n  wanted: {wanted}\n")?)
 }
