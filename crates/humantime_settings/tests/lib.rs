@@ -5,6 +5,7 @@ mod attributes;
 mod config_parts;
 mod documents;
 mod drawn;
+mod first_errors;
 mod printed;
 mod refused;
 pub(crate) mod support;
