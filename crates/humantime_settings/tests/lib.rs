@@ -3,6 +3,7 @@
 
 mod attributes;
 mod config_parts;
+mod cut;
 mod documents;
 mod drawn;
 mod first_errors;
