@@ -366,6 +366,10 @@ const ERRORS: &[Row<'static>] = &[
     ),
     ("invalid string", &["timeout = \"2h^\nJOB"]),
     (
+        "unexpected key or value, expected newline, `#`",
+        &["timeout = 1 ^2\nJOB", "x = 1.5 ^2 # 3"],
+    ),
+    (
         "duplicate key",
         &[
             "timeout = '2h'\n^timeout = '2h'\nJOB",
@@ -484,16 +488,38 @@ const NO_JSON: &[Row<'static>] = &[
             r#"{"a":[^,1]}"#,
             r#"{"a":[^}]"#,
             r#"{"a":^nul}"#,
-            r#"{"a":^01}"#,
             r#"{"a":[null,^'b']}"#,
         ],
     ),
     ("key must be a string", &["{^a:1}", r#"{"a":1,^2:3}"#]),
-    ("invalid string", &[r#"{"a":^"\q"}"#, "{\"a\":^\"\n\"}"]),
+    (
+        "invalid number",
+        &[
+            r#"{"a":0^1}"#,
+            r#"{"a":-^}"#,
+            r#"{"a":[1.^e5]}"#,
+            r#"{"a":1e+^, "b":2}"#,
+        ],
+    ),
+    (
+        "invalid string",
+        &[
+            r#"{"a":"\^q"}"#,
+            "{\"a\":\"^\n\"}",
+            "{\"a\":\"1 ^\t2\"}",
+            r#"{"a":"\\\u0031\^u12 "}"#,
+            "{\"a\u{e9}^\u{1f}\":1}",
+        ],
+    ),
     ("trailing characters", &[r#"{"a":1} ^{}"#, r#"{"a":1}^,"#]),
     (
         "EOF while parsing",
-        &[r#"{"a":[1,^"#, "{\"a\":{\"b\":1}\n^"],
+        &[
+            r#"{"a":[1,^"#,
+            "{\"a\":{\"b\":1}\n^",
+            r#"{"a":"b^"#,
+            r#"{"a":"\u00^"#,
+        ],
     ),
 ];
 
@@ -726,8 +752,7 @@ fn errors_of_documents(rt: HostRuntime) -> Result<(), Fail> {
         [json; 2],
         &[],
         &[
-            ("EOF while parsing", &["^"]),
-            ("invalid string", &[r#"^""#]),
+            ("EOF while parsing", &["^", r#""^"#]),
             ("expected value", &["^}", "^\u{feff}{}"]),
             ("invalid type: integer `7`, expected a map", &["^7"]),
         ],
@@ -801,7 +826,7 @@ const PRINTED: &[(&str, &str)] = &[
     // Control characters but tabs are escapes, in the line and in the message.
     (
         "{\"\u{1b}[2J\t\u{9b}é\": \u{7f}",
-        "line 1, column 2: invalid string\n{\"\\u{1b}[2J\t\\u{9b}é\": \\u{7f}\n ^",
+        "line 1, column 3: invalid string\n{\"\\u{1b}[2J\t\\u{9b}é\": \\u{7f}\n  ^",
     ),
     (
         "{\"timeout\": \"1 \u{9b}x\u{9b}\"}",
@@ -898,16 +923,15 @@ fn errors_are_printed(rt: HostRuntime) -> Result<(), Fail> {
 
 #[test]
 fn documents_end_in_a_string(rt: HostRuntime) -> Result<(), Fail> {
-    // In JSON the string is marked where it begins, and in TOML where it should end.
-    for (before, string, after) in [
-        ("{\"timeout\":^", "\"2h \\u0031s é\"", ""),
-        ("timeout = ", "'2h é'", "^"),
+    for (before, string, message) in [
+        ("{\"timeout\":", "\"2h \\u0031s é\"", "EOF while parsing"),
+        ("timeout = ", "'2h é'", "invalid string"),
     ] {
         for (end, _) in string.char_indices().skip(1) {
-            let text = format!(in rt.alloc(); "{before}{}{after}", &string[..end])?;
+            let text = format!(in rt.alloc(); "{before}{}^", &string[..end])?;
             let read = reader(reads!(Jobs), &text);
             assert_eq!(rt;
-                difference(&rt, read, &text, Some("invalid string"))?.as_str(),
+                difference(&rt, read, &text, Some(message))?.as_str(),
                 ""
             );
         }
