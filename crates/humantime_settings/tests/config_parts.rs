@@ -242,8 +242,8 @@ pub(crate) const BOTH: Parts = &[
     (
         "wrong limits",
         &[
-            "<{^><^}>«missing field `max-age`»",
-            "<{^><_><'minAge><=><number><^}>«missing field `max-age`»",
+            "<{^><_><'maxAge><=><number><^}>«missing field `max-age`»",
+            "<{^><_><'minAge><=>7<,><'maxAge><=>1<^}>«missing field `max-age`»",
             "<{^><_><'max_age><=><number><,><'maxAge><=><number><^}>«missing field `max-age`»",
             "{<_><'max-age><=>7<,><'minAge><=><wrong number><_>}",
         ],

@@ -82,11 +82,9 @@ const FLATTENED_STRUCTS: &[Row<'static>] = &[
         &[
             r#"{"ages":{"maxAge":1,"max_age":2,"wait":"1s"^}}"#,
             "^[ages]\nmaxAge = 1\nmax_age = 2\nwait = '1s'",
-            r#"{"limits":{"minAge":1^}}"#,
-            r#"{"limits":{^}}"#,
             r#"{"limits":{"maxAge":1^}}"#,
-            "^[limits]\nminAge = 1",
-            "limits = ^{}",
+            "^[limits]\nmaxAge = 1",
+            "limits = ^{ minAge = 1, maxAge = 2 }",
             r#"{"left":{^},"right":{}}"#,
             "[right]\nMAX_AGE = 1\n^[left]\n",
         ],
