@@ -45,6 +45,11 @@ Writes no_value = Sends nothing
 Writes (texts ts) = WritesSeq (λ t. Sends (text t)) ts
 Writes (entries es) = WritesMap (λ t. Sends (text t)) (λ t. Sends (text t)) es
 
+-- A form that has both relations is written.
+abbrev pub WritesOne : (Form → Type 0) → (Form → Type 0) → Log → Log → Type 0
+WritesOne IsWritten IsRead old new =
+    (form : Form) × IsWritten form × IsRead form × Writes form old new
+
 -- Each of these takes a step.
 abbrev pub InTurn : {A S : Type 0} → (A → S → S → Type 0) → List A → S → S → Type 0
 InTurn step [] old new = new ≡ old

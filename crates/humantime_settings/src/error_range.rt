@@ -1,12 +1,14 @@
 //! What `humantime` says of a value that is not a duration or a timestamp.
 
 use crate::raw_strings::raw_range;
+use crate::toml_positions::tail;
 use humantime_std::located::{Located, parse_duration, parse_rfc3339_weak};
 use serde_trace::{Rejection, Unexpected};
 use std::alloc::{AllocError, Global};
 use std::fmt::{Display, InlineText};
 
-/// A message as a field gives it to a format: its first 80 bytes, which end in dots if it is longer.
+/// A message as a field gives it to a format: its first 80 bytes, which end in dots if it is
+/// longer.
 pub(crate) type Message = InlineText<80>;
 
 /// Creates an error of which only the start is known.
@@ -50,8 +52,7 @@ fn error_in(
     let Some(Located { error, start, end }) = found else {
         return Ok(None);
     };
-    let literal = document.get(at..).unwrap_or("");
-    let (start, end) = raw_range(literal, text, start, end);
+    let (start, end) = raw_range(tail(document, at), text, start, end);
     Ok(Some(Located { error, start, end }.after(at)))
 }
 

@@ -5,7 +5,8 @@ ghost use Rattle.std.specs.Duration.{as_nanos};
 ghost use Rattle.serde.specs.Event.{Logs, text};
 ghost use Rattle.serde.specs.Steps.{Gives};
 ghost use Rattle.humantime.specs.Prelude.{IsPrinted, duration_answer, duration_text, places_of, weak_answer};
-ghost use Rattle.humantime_settings.specs.Texts.{Form, AreEntries, AreTexts, IsMapFrom, IsText, IsTextOrNothing, Reads, Writes};
+ghost use Rattle.humantime_settings.specs.Texts.{AreEntries, AreTexts, Form, IsMapFrom, IsText};
+ghost use Rattle.humantime_settings.specs.Texts.{IsTextOrNothing, Reads, WritesOne};
 
 use crate::error_range::Message;
 use humantime::laws::printed_moment_reads;
@@ -21,15 +22,16 @@ use std::alloc::Global;
 use std::collections::BTreeMap;
 use std::time;
 
-/// Writes a field as the canonical string of its value, or as no value if it is `None`, such as `null` in JSON. A list or a map is written
-/// with such a string for each of its values. What is written is read back as the same value.
+/// Writes a field as the canonical string of its value, or as no value if it is `None`, such as
+/// `null` in JSON. A list or a map is written with such a string for each of its values. What is
+/// written is read back as the same value.
 ///
-/// The derive of `Serialize` calls it for a field that is marked with `#[serde(with = "humantime_settings")]`.
+/// The derive of `Serialize` calls it for a field with `#[serde(with = "humantime_settings")]`.
 ///
 /// # Errors
 ///
-/// Returns an error of the format if a timestamp is not from 1970 to 9999, if the format cannot write the string, or if an allocation
-/// fails.
+/// Returns an error of the format if a timestamp is not from 1970 to 9999, if the format cannot
+/// write the string, or if an allocation fails.
 ///
 /// # Examples
 ///
@@ -52,15 +54,17 @@ use std::time;
 /// assert_eq!(rt; serde_json::to_string(rt.alloc(), &pause)?.as_str(), "\"1m 30s\"");
 /// ```
 pub fn serialize<T: Field, S: Serializer>(value: &T, out: &mut S) -> Result<(), S::Error>
-    ensures { OnOk result ((form : Form) × T.IsWrittenAs value.now form × T.IsReadFrom value.now form × Writes form (S.written out.old) (S.written out.new)) }
+    ensures { OnOk result (WritesOne (T.IsWrittenAs value.now) (T.IsReadFrom value.now)
+        (S.written out.old) (S.written out.new)) }
 {
     value.write(out)
 }
 
-/// Reads a field from a string, which `parse_duration` or `parse_rfc3339_weak` of `humantime` parses, or from a list or a map of such
-/// strings. An `Option` is `None` if the format has no value there. Of equal keys of a map, the last one counts.
+/// Reads a field from a string, which `parse_duration` or `parse_rfc3339_weak` of `humantime`
+/// parses, or from a list or a map of such strings. An `Option` is `None` if the format has no
+/// value there. Of equal keys of a map, the last one counts.
 ///
-/// The derive of `Deserialize` calls it for a field that is marked with `#[serde(with = "humantime_settings")]`.
+/// The derive of `Deserialize` calls it for a field with `#[serde(with = "humantime_settings")]`.
 ///
 /// # Errors
 ///
@@ -70,7 +74,8 @@ pub fn serialize<T: Field, S: Serializer>(value: &T, out: &mut S) -> Result<(), 
 /// - of `humantime` if the string is no duration or timestamp;
 /// - of the format if there is no list or map, or if an allocation fails.
 ///
-/// The formats cut a message at 80 bytes or less; [`from_json`](crate::from_json) and [`from_toml`](crate::from_toml) have the whole.
+/// The formats cut a message at 80 bytes or less; [`from_json`](crate::from_json) and
+/// [`from_toml`](crate::from_toml) have the whole.
 ///
 /// # Examples
 ///
@@ -83,7 +88,10 @@ pub fn serialize<T: Field, S: Serializer>(value: &T, out: &mut S) -> Result<(), 
 /// struct Pause(StdDuration);
 ///
 /// impl<'de> Deserialize<'de> for Pause {
-///     fn deserialize<F: Format>(alloc: Global, from: &mut Deserializer<'de, '_, F>) -> Result<Pause, F::Error> {
+///     fn deserialize<F: Format>(
+///         alloc: Global,
+///         from: &mut Deserializer<'de, '_, F>,
+///     ) -> Result<Pause, F::Error> {
 ///         Ok(Pause(humantime_settings::deserialize(alloc, from)?))
 ///     }
 /// }
@@ -95,7 +103,8 @@ pub fn deserialize<'de, T: Field, F: Format>(
     alloc: Global,
     from: &mut Deserializer<'de, '_, F>,
 ) -> Result<T, F::Error>
-    ensures { IfOk result (λ v. (form : Form) × T.IsReadFrom v form × Reads F.gives F.stays form from.old from.new) }
+    ensures { IfOk result (λ v. (form : Form) × T.IsReadFrom v form
+        × Reads F.gives F.stays form from.old from.new) }
 {
     T::read(alloc, from)
 }
@@ -136,14 +145,17 @@ trait Value: Sized + Drop {
 
     /// Writes the value, as [`serialize`] does.
     fn write<S: Serializer>(&self, out: &mut S) -> Result<(), S::Error>
-        ensures { OnOk result ((form : Form) × IsWrittenAs self.now form × IsReadFrom self.now form × Writes form (S.written out.old) (S.written out.new)) };
+        ensures { OnOk result (WritesOne (IsWrittenAs self.now) (IsReadFrom self.now)
+            (S.written out.old) (S.written out.new)) };
 
     /// Reads a value, as [`deserialize`] does.
     fn read<F: Format>(alloc: Global, from: &mut Deserializer<'_, '_, F>) -> Result<Self, F::Error>
-        ensures { IfOk result (λ v. (form : Form) × IsReadFrom v form × Reads F.gives F.stays form from.old from.new) };
+        ensures { IfOk result (λ v. (form : Form) × IsReadFrom v form
+            × Reads F.gives F.stays form from.old from.new) };
 }
 
-/// A wrapper for the keys of a map, the items of other collections, or a whole document: it is written and read as a field is.
+/// A wrapper for the keys of a map, the items of other collections, or a whole document: it is
+/// written and read as a field is.
 ///
 /// # Examples
 ///
@@ -163,7 +175,7 @@ trait Value: Sized + Drop {
 pub struct AsText<T>(pub T);
 
 impl<T: Field> Described for AsText<T> {
-    ghost writes = { λ v old new. (form : Form) × T.IsWrittenAs v.0 form × T.IsReadFrom v.0 form × Writes form old new };
+    ghost writes = { λ v. WritesOne (T.IsWrittenAs v.0) (T.IsReadFrom v.0) };
 }
 
 impl<T: Field> Serialize for AsText<T> {
@@ -200,7 +212,8 @@ trait Text: Sized + Drop {
 
     /// Writes the canonical string, from which the value is parsed again.
     fn write_text<S: Serializer>(&self, out: &mut S) -> Result<(), S::Error>
-        ensures { OnOk result ((t : List ℕ) × IsPrintedAs self.now t × IsParsedFrom self.now t × Logs (S.written out.old) (S.written out.new) (text t)) };
+        ensures { OnOk result ((t : List ℕ) × IsPrintedAs self.now t × IsParsedFrom self.now t
+            × Logs (S.written out.old) (S.written out.new) (text t)) };
 
     /// The error of a value that is no string, for which JSON has 32 bytes.
     const WANTED: &'static str = "expected a duration in quotes";
@@ -324,7 +337,8 @@ fn read_text<T: Text, F: Format>(
     alloc: Global,
     from: &mut Deserializer<'_, '_, F>,
 ) -> Result<T, F::Error>
-    ensures { IfOk result (λ v. (t : List ℕ) × T.IsParsedFrom v t × Gives F.gives from.old (text t) from.new) }
+    ensures { IfOk result (λ v. (t : List ℕ) × T.IsParsedFrom v t
+        × Gives F.gives from.old (text t) from.new) }
 {
     let text = match from.string(alloc) {
         Ok(text) => text,

@@ -29,8 +29,8 @@ pub(crate) fn found_at<'a>(
     Ok((offset, found))
 }
 
-/// Opens an object or an array, and passes so many members or items, or all. Returns the key or the bracket that follows, if one does, or
-/// another value.
+/// Opens an object or an array, and passes so many members or items, or all. Returns the key or the
+/// bracket that follows, if one does, or another value.
 fn pass_entries<'a>(reader: &mut Reader<'a>, count: usize) -> (usize, Token<'a>) {
     let start = reader.offset();
     let is_object = match reader.next() {

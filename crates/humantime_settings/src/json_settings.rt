@@ -17,16 +17,22 @@ use serde::{Deserialize, DeserializeOwned, Deserializer, Format, Serialize};
 use serde_trace::{Rejection, Traced};
 use std::alloc::{AllocError, Global};
 
-/// Reads settings in JSON. Until it returns, it keeps the tokens of the document in memory.
+/// Reads settings in JSON.
 ///
 /// # Errors
 ///
-/// Returns [`SettingsError::At`] for an error in the document, and [`SettingsError::OutOfMemory`] if an allocation fails. The position is
+/// A document that is not JSON has that error alone; else the error is the first that the type
+/// meets, in the document's order: an enum's tag first, flattened keys last, and missing keys at
+/// the end of their object.
+///
+/// Returns [`SettingsError::At`] for an error in the document. The position is
 ///
 /// - in a string that is no duration or timestamp: what is wrong in it;
 /// - of another wrong value, of an unknown key or of a duplicate one: its start;
 /// - of a missing key: the end of its object;
-/// - of a string that is not JSON: where it stops being JSON.
+/// - of a string that is not JSON: the first byte that no JSON has there.
+///
+/// Returns [`SettingsError::OutOfMemory`] if an allocation fails.
 ///
 /// # Examples
 ///
@@ -36,25 +42,26 @@ use std::alloc::{AllocError, Global};
 ///
 /// let waits: Vec<AsText<StdDuration>> = from_json(rt.alloc(), r#"["1s", "1m 30s"]"#)?;
 /// assert_eq!(rt; waits.len(), 2);
-/// let error = from_json::<Vec<AsText<StdDuration>>>(rt.alloc(), r#"["1s", "1m 30"]"#).err().ok_or("read")?;
-/// assert_eq!(rt; error.to_string(rt.alloc())?.as_str(), "line 1, column 14: time unit needed, for example 30sec or 30ms\n[\"1s\", \"1m 30\"]\n             ^");
+/// let text = r#"["1s", "1m 30"]"#;
+/// let error = from_json::<Vec<AsText<StdDuration>>>(rt.alloc(), text).err().ok_or("read")?;
+/// let shown = error.to_string(rt.alloc())?;
+/// assert!(rt; shown.starts_with("line 1, column 14: time unit needed, for example 30sec"));
+/// assert!(rt; shown.ends_with("\n[\"1s\", \"1m 30\"]\n             ^"));
 /// ```
 pub fn from_json<T: DeserializeOwned>(alloc: Global, text: &str) -> Result<T, SettingsError>
     ensures position { IfErr result (IsErrorIn text.now) }
     ensures positioned { (message : _) → result ≢ Err (SettingsError.WithoutPosition message) }
 {
-    if let Ok(Owned(value)) = serde_json::from_str::<Owned<T>>(alloc, text) {
-        return Ok(value);
+    match serde_json::from_str::<Owned<T>>(alloc, text) {
+        Ok(Owned(value)) => Ok(value),
+        Err(error) => {
+            let error = located::<T>(alloc, text, &error)?;
+            Err(error_at(alloc, text, error)?)
+        }
     }
-    let error = match serde_json::from_str::<Traced<T>>(alloc, text) {
-        Ok(Traced(Ok(value))) => return Ok(value),
-        Ok(Traced(Err(rejection))) => rejected(alloc, text, &rejection)?,
-        Err(error) => document_error(alloc, text, &error)?,
-    };
-    Err(error_at(alloc, text, error)?)
 }
 
-/// A value that borrows nothing.
+/// A value that borrows nothing, as `serde_json` reads it.
 #[derive(Drop)]
 struct Owned<T>(T);
 
@@ -71,8 +78,8 @@ impl<'de, T: DeserializeOwned> Deserialize<'de> for Owned<T> {
 ///
 /// # Errors
 ///
-/// Returns [`SettingsError::WithoutPosition`] if a value cannot be written, such as a timestamp that is not from 1970 to 9999, and
-/// [`SettingsError::OutOfMemory`] if an allocation fails.
+/// Returns [`SettingsError::WithoutPosition`] if a value cannot be written, such as a timestamp
+/// that is not from 1970 to 9999, and [`SettingsError::OutOfMemory`] if an allocation fails.
 ///
 /// # Examples
 ///
@@ -84,7 +91,8 @@ impl<'de, T: DeserializeOwned> Deserialize<'de> for Owned<T> {
 /// assert_eq!(rt; to_json(rt.alloc(), &waits)?.as_str(), "[\n  \"1s\",\n  \"1m 30s\"\n]");
 /// ```
 pub fn to_json<T: Serialize>(alloc: Global, value: &T) -> Result<String, SettingsError>
-    ensures tokens { IfOk result (λ s. (log : Log) × T.writes value.now (Some []) log × AreTokensOf false log (tokens (string_bytes s))) }
+    ensures tokens { IfOk result (λ s. (log : Log) × T.writes value.now (Some []) log
+        × AreTokensOf false log (tokens (string_bytes s))) }
     ensures layout { IfOk result (λ s. string_bytes s ≡ pretty (tokens (string_bytes s))) }
     ensures unplaced { IfErr result (λ error. line_of error ≡ None) }
 {
@@ -92,6 +100,25 @@ pub fn to_json<T: Serialize>(alloc: Global, value: &T) -> Result<String, Setting
         Ok(text) => Ok(text),
         Err(error) if error.is_memory() => Err(SettingsError::OutOfMemory),
         Err(error) => Err(SettingsError::WithoutPosition(error.to_string(alloc)?)),
+    }
+}
+
+/// Returns the error of a document that `serde_json` rejects with this one.
+fn located<T: DeserializeOwned>(
+    alloc: Global,
+    text: &str,
+    error: &serde_json::Error,
+) -> Result<Located<String>, AllocError> {
+    if error.is_memory() {
+        return Err(AllocError);
+    }
+    if let Some((at, message)) = syntax_error(alloc, text)? {
+        return Ok(error_from(at, String::from_str(alloc, message)?));
+    }
+    match serde_json::from_str::<Traced<T>>(alloc, text) {
+        Ok(Traced(Err(rejection))) => rejected(alloc, text, &rejection),
+        Ok(Traced(Ok(_value))) => other_error(alloc, text, error),
+        Err(error) => other_error(alloc, text, &error),
     }
 }
 
@@ -106,8 +133,8 @@ fn rejected(
     range_at(alloc, text, at, rejection, found)
 }
 
-/// Returns the error of a document with this error. What is not JSON has no other.
-fn document_error(
+/// Returns the error of a document as `serde_json` has it, such as a number that is out of range.
+fn other_error(
     alloc: Global,
     text: &str,
     error: &serde_json::Error,
@@ -115,30 +142,16 @@ fn document_error(
     if error.is_memory() {
         return Err(AllocError);
     }
-    let mut scratch = Scratch::new(alloc);
-    if !error.is_data() {
-        if let Some((at, message)) = syntax_error(alloc, text, &mut scratch)? {
-            return Ok(error_from(at, String::from_str(alloc, message)?));
-        }
-    }
-    Ok(error_from(error_offset(text, error), message_of(alloc, error)?))
-}
-
-/// Returns the message of an error without its position.
-fn message_of(alloc: Global, error: &serde_json::Error) -> Result<String, AllocError> {
     let mut message = error.to_string(alloc)?;
     message.truncate(message.rfind(" at line ").unwrap_or(message.len()));
-    Ok(message)
+    Ok(error_from(error_offset(text, error), message))
 }
 
 /// Returns the offset of an error, which has a line, from 1, and a column, in bytes from 1.
 fn error_offset(document: &str, error: &serde_json::Error) -> usize {
-    let mut offset = error.column().saturating_sub(1);
-    for line in document
+    let lines = document
         .split_inclusive('\n')
-        .take(error.line().saturating_sub(1))
-    {
-        offset = offset.saturating_add(line.len());
-    }
-    offset
+        .take(error.line().saturating_sub(1));
+    let offset = lines.fold(0, |offset: usize, line| offset.saturating_add(line.len()));
+    offset.saturating_add(error.column().saturating_sub(1))
 }

@@ -1,70 +1,181 @@
 //! Where a string stops being JSON, and what is expected there.
 
-use json::{Reader, Scratch, Token};
-use serde_trace::Part;
+use crate::toml_positions::{offset_of, tail};
 use std::alloc::{AllocError, Global};
+use std::fmt::InlineText;
+use toml_parser::text::first;
 
-/// Returns the offset at which a string is not JSON, and why, or `None` if it is JSON with at most 127 objects and arrays in one another.
-pub(crate) fn syntax_error<'a>(
+/// What comes next in a document.
+#[derive(Clone, Copy)]
+enum Next {
+    Value,
+    /// A value, or the end of its array.
+    Item,
+    /// A key after a comma.
+    Key,
+    /// A key, or the end of its object.
+    Entry,
+    Colon,
+    /// A comma or a bracket, or the end of the document.
+    End,
+}
+
+/// The rest of a document that cannot follow, and why, or nothing if more has to follow.
+type Stop<'a> = (&'a str, &'static str);
+
+/// Returns the offset at which a string is not JSON, and why, or `None` if it is JSON with at most
+/// 127 objects and arrays in one another.
+pub(crate) fn syntax_error(
     alloc: Global,
-    text: &'a str,
-    scratch: &'a mut Scratch,
+    text: &str,
 ) -> Result<Option<(usize, &'static str)>, AllocError> {
-    let mut reader = Reader::new(text, scratch)?;
     // For each open object and array, whether it is an object.
     let mut open: Vec<bool> = Vec::new(alloc);
+    let (mut rest, mut next) = (text, Next::Value);
     for _ in 0..=text.len() {
-        let (at, in_object) = (reader.offset(), open.last().copied());
-        let rest = text.get(at..).unwrap_or("");
-        let front = text.get(..at).unwrap_or("").trim_end();
-        if front.ends_with(',') && in_object.is_none() {
-            return Ok(Some((front.len().saturating_sub(1), "trailing characters")));
+        rest = rest.trim_start_matches([' ', '\t', '\n', '\r']);
+        let (byte, in_object) = (first(rest), open.last().copied());
+        if let (true, Next::End, None) = (rest.is_empty(), next, in_object) {
+            break;
         }
-        let (next, may_close) = (next_behind(front, in_object), !front.ends_with([',', ':']));
-        let token = reader.next().unwrap_or(Token::Bad);
-        let stop = reader.offset();
-        // Where the reader stands, or the comma or colon that it has passed.
-        let passed = text.get(..stop).unwrap_or("").trim_end();
-        let end = passed.strip_suffix([',', ':']).map_or(stop, str::len);
-        match (token, next, in_object) {
-            (Token::Key(_), Part::Key, _) | (Token::Bool(_) | Token::Null, Part::Value, _) => {}
-            (Token::String(_) | Token::Number(_), Part::Value, _) => {}
-            (Token::BeginObject, Part::Value, _) if open.len() < 127 => open.push(true)?,
-            (Token::BeginArray, Part::Value, _) if open.len() < 127 => open.push(false)?,
-            (Token::EndObject, _, Some(true)) if may_close => drop(open.pop()),
-            (Token::EndArray, _, Some(false)) if may_close => drop(open.pop()),
-            (Token::Bad, Part::End, None) if at == text.len() => break,
-            (Token::String(_), Part::Key, _) => return Ok(Some((end, "expected `:`"))),
-            (Token::Key(_), Part::Value, _) => {
-                return Ok(Some((end, why(front, ":", Part::End, in_object))));
+        (rest, next) = match pass(rest, next, in_object) {
+            Ok(_) if open.len() >= 127 && matches!(byte, b'{' | b'[') => {
+                return Ok(Some((offset_of(text, rest), "recursion limit exceeded")));
             }
-            _ => return Ok(Some((at, why(front, rest, next, in_object)))),
+            Ok(passed) => passed,
+            Err(("", _)) => return Ok(Some((text.len(), "EOF while parsing"))),
+            Err((stop, why)) => return Ok(Some((offset_of(text, stop), why))),
+        };
+        match byte {
+            b'{' | b'[' => open.push(byte == b'{')?,
+            b'}' | b']' => drop(open.pop()),
+            _ => {}
         }
     }
     Ok(None)
 }
 
-/// Returns what comes next behind this: a key, a value, or the comma or bracket at its end.
-fn next_behind(front: &str, in_object: Option<bool>) -> Part {
-    match (front.as_bytes().last(), in_object) {
-        (Some(b'{'), _) | (Some(b','), Some(true)) => Part::Key,
-        (None | Some(b',' | b':' | b'['), _) => Part::Value,
-        _ => Part::End,
+/// Passes a token. Returns the rest of the document, and what comes next in it.
+fn pass(rest: &str, next: Next, in_object: Option<bool>) -> Result<(&str, Next), Stop<'_>> {
+    let (byte, after) = (first(rest), tail(rest, 1));
+    let passed = match (byte, next, in_object) {
+        (b'"', Next::Key | Next::Entry, _) => (after_string(after)?, Next::Colon),
+        (b'"', Next::Value | Next::Item, _) => (after_string(after)?, Next::End),
+        (b'-' | b'0'..=b'9', Next::Value | Next::Item, _) => (after_number(rest)?, Next::End),
+        (b't' | b'f' | b'n', Next::Value | Next::Item, _) => (after_word(rest)?, Next::End),
+        (b'{', Next::Value | Next::Item, _) => (after, Next::Entry),
+        (b'[', Next::Value | Next::Item, _) => (after, Next::Item),
+        (b'}', Next::Entry | Next::End, Some(true)) => (after, Next::End),
+        (b']', Next::Item | Next::End, Some(false)) => (after, Next::End),
+        (b':', Next::Colon, _) => (after, Next::Value),
+        (b',', Next::End, Some(true)) => (after, Next::Key),
+        (b',', Next::End, Some(false)) => (after, Next::Value),
+        _ => return Err((rest, why(byte, next, in_object))),
+    };
+    Ok(passed)
+}
+
+/// Returns why this byte cannot follow.
+fn why(byte: u8, next: Next, in_object: Option<bool>) -> &'static str {
+    match (byte, next, in_object) {
+        (b'}' | b']', Next::Key, _) | (b']', Next::Value, Some(false)) => "trailing comma",
+        (_, Next::Key | Next::Entry, _) => "key must be a string",
+        (_, Next::Value | Next::Item, _) => "expected value",
+        (_, Next::Colon, _) => "expected `:`",
+        (_, Next::End, Some(true)) => "expected `,` or `}`",
+        (_, Next::End, Some(false)) => "expected `,` or `]`",
+        (_, Next::End, None) => "trailing characters",
     }
 }
 
-/// Returns why the rest of a string cannot follow.
-fn why(front: &str, rest: &str, next: Part, in_object: Option<bool>) -> &'static str {
-    match (rest.as_bytes().first(), next, in_object) {
-        (None, _, _) => "EOF while parsing",
-        (_, Part::End, Some(true)) => "expected `,` or `}`",
-        (_, Part::End, Some(false)) => "expected `,` or `]`",
-        (_, Part::End, None) => "trailing characters",
-        (Some(b'"'), _, _) => "invalid string",
-        (Some(b'{' | b'['), Part::Value, _) => "recursion limit exceeded",
-        (Some(b'}' | b']'), Part::Key, _) if front.ends_with(',') => "trailing comma",
-        (Some(b']'), Part::Value, Some(false)) => "trailing comma",
-        (_, Part::Key, _) => "key must be a string",
-        (_, Part::Value, _) => "expected value",
+/// Returns the document after the string whose quote has passed. A wrong escape stops it after its
+/// backslash.
+fn after_string(content: &str) -> Result<&str, Stop<'_>> {
+    let mut rest = content;
+    for _ in 0..=content.len() {
+        rest = rest.trim_start_matches(|c: char| c >= ' ' && c != '"' && c != '\\');
+        let Some(escape) = rest.strip_prefix('\\') else {
+            break;
+        };
+        match after_escape(escape) {
+            Some(after) => rest = after,
+            None if is_cut(escape) => return Err(("", "")),
+            None => return Err((escape, "invalid string")),
+        }
     }
+    rest.strip_prefix('"').ok_or((rest, "invalid string"))
+}
+
+/// Returns whether the document ends in the escape at the front.
+fn is_cut(escape: &str) -> bool {
+    let longest = "uD800\\uDC00";
+    if escape.len() >= longest.len() {
+        return false;
+    }
+    let whole = InlineText::<11>::of(escape).and(tail(longest, escape.len()), 11);
+    after_escape(whole.as_str()).is_some()
+}
+
+/// Returns the document after the escape whose backslash has passed.
+fn after_escape(escape: &str) -> Option<&str> {
+    let Some(digits) = escape.strip_prefix('u') else {
+        return escape.strip_prefix(['"', '\\', '/', 'b', 'f', 'n', 'r', 't']);
+    };
+    match code_of(digits)? {
+        // The second half of a character of four bytes has to follow.
+        0xD800..=0xDBFF => {
+            let second = tail(digits, 4).strip_prefix("\\u")?;
+            let is_half = matches!(code_of(second), Some(0xDC00..=0xDFFF));
+            is_half.then_some(tail(second, 4))
+        }
+        0xDC00..=0xDFFF => None,
+        _ => Some(tail(digits, 4)),
+    }
+}
+
+/// Returns what the four digits at the front stand for.
+fn code_of(digits: &str) -> Option<u32> {
+    let digits = digits.get(..4)?;
+    let are_digits = digits.bytes().all(|digit| digit.is_ascii_hexdigit());
+    u32::from_str_radix(digits, 16).ok().filter(|_| are_digits)
+}
+
+/// Returns the document after the number at the front.
+fn after_number(number: &str) -> Result<&str, Stop<'_>> {
+    let whole = number.strip_prefix('-').unwrap_or(number);
+    let mut rest = match whole.strip_prefix('0') {
+        Some(rest) if after_digits(rest).is_ok() => return Err((rest, "invalid number")),
+        Some(rest) => rest,
+        None => after_digits(whole)?,
+    };
+    if let Some(fraction) = rest.strip_prefix('.') {
+        rest = after_digits(fraction)?;
+    }
+    if let Some(exponent) = rest.strip_prefix(['e', 'E']) {
+        rest = after_digits(exponent.strip_prefix(['+', '-']).unwrap_or(exponent))?;
+    }
+    Ok(rest)
+}
+
+/// Returns the document after the digits at the front, of which there is at least one.
+fn after_digits(digits: &str) -> Result<&str, Stop<'_>> {
+    let rest = digits.trim_start_matches(|c: char| c.is_ascii_digit());
+    if rest.len() < digits.len() {
+        Ok(rest)
+    } else {
+        Err((digits, "invalid number"))
+    }
+}
+
+/// Returns the document after the word at the front.
+fn after_word(rest: &str) -> Result<&str, Stop<'_>> {
+    for word in ["true", "false", "null"] {
+        if let Some(after) = rest.strip_prefix(word) {
+            return Ok(after);
+        }
+        if word.starts_with(rest) {
+            return Err(("", ""));
+        }
+    }
+    Err((rest, "expected value"))
 }

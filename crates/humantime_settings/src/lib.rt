@@ -1,12 +1,14 @@
-//! Settings with durations and timestamps as strings: `serde` reads and writes them in JSON, TOML or another format. Errors of
-//! reading the first two have a position.
+//! Settings with durations and timestamps as strings: `serde` reads and writes them in JSON, TOML
+//! or another format. Errors of reading the first two have a position.
 //!
-//! - [`#[serde(with = "humantime_settings")]`](Field) marks a field of a type that derives `Serialize` or `Deserialize`: a duration, a
-//!   timestamp, or a list or a map of these. An `Option` also needs `default`, as in `#[serde(default, with = "humantime_settings")]`, to
-//!   be `None` if it is missing.
+//! - [`#[serde(with = "humantime_settings")]`](Field) marks a field of a type that derives
+//!   `Serialize` or `Deserialize`: a duration, a timestamp, or a list or a map of these. An
+//!   `Option` also needs `default`, as in `#[serde(default, with = "humantime_settings")]`, to be
+//!   `None` if it is missing.
 //! - [`AsText`] wraps the key of a map, or an item of another collection.
-//! - [`from_json`] and [`from_toml`] read settings. Their error, [`SettingsError`], has a line and a column, and prints the message of
-//!   `humantime` or `serde`, the line, and carets under what is wrong.
+//! - [`from_json`] and [`from_toml`] read settings. Their error, [`SettingsError`], has a line and
+//!   a column, and prints the message of `humantime` or `serde`, the line, and carets under what is
+//!   wrong.
 //! - [`to_json`] and [`to_toml`] write settings, each marked value as its canonical string.
 //!
 //! # Examples
@@ -31,11 +33,13 @@
 //! fn main(rt: HostRuntime) -> Result<(), Fail> {
 //!     let text = r#"{"timeout": "90s", "retries": [], "since": "2024-01-02"}"#;
 //!     let error = from_json::<Settings>(rt.alloc(), text).err().ok_or("read")?;
-//!     assert_eq!(rt; error.to_string(rt.alloc())?.as_str(), r#"line 1, column 55: timestamp format is invalid
+//!     let wanted = r#"line 1, column 55: timestamp format is invalid
 //! {"timeout": "90s", "retries": [], "since": "2024-01-02"}
-//!                                                       ^"#);
+//!                                                       ^"#;
+//!     assert_eq!(rt; error.to_string(rt.alloc())?.as_str(), wanted);
 //!
-//!     let settings: Settings = from_json(rt.alloc(), r#"{"timeout": "90s", "retries": ["500ms"]}"#)?;
+//!     let text = r#"{"timeout": "90s", "retries": ["500ms"]}"#;
+//!     let settings: Settings = from_json(rt.alloc(), text)?;
 //!     assert!(rt; to_json(rt.alloc(), &settings)?.contains("\"timeout\": \"1m 30s\""));
 //!     Ok(())
 //! }

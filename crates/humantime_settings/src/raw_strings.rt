@@ -1,11 +1,13 @@
 //! Where a part of a string is in its literal: in JSON, or of each of the four kinds in TOML.
 
+use crate::toml_positions::{offset_of, tail};
 use toml_parser::text::skip_blank;
 
-/// Returns the range of the literal at the front of a document that stands for a range of its string.
+/// Returns the range of the literal at the front of a document that stands for a range of its
+/// string.
 pub(crate) fn raw_range(document: &str, text: &str, start: usize, end: usize) -> (usize, usize) {
     let content = content_of(document);
-    let quotes = document.len().saturating_sub(content.len());
+    let quotes = offset_of(document, content);
     let (first, last) = if document.starts_with('\'') {
         (start, end)
     } else {
@@ -15,7 +17,8 @@ pub(crate) fn raw_range(document: &str, text: &str, start: usize, end: usize) ->
     (quotes.saturating_add(first), quotes.saturating_add(last))
 }
 
-/// Returns what is behind the quotes, if the document begins with any. A line feed at the start of three quotes is left out.
+/// Returns what is behind the quotes, if the document begins with any. A line feed at the start of
+/// three quotes is left out.
 fn content_of(document: &str) -> &str {
     let long = document
         .strip_prefix("\"\"\"")
@@ -32,14 +35,14 @@ fn offset_after(content: &str, text: &str, len: usize) -> usize {
     let mut next = 0;
     for c in text.get(..len).unwrap_or(text).chars() {
         let at = after_blank(content, next);
-        next = at.saturating_add(raw_len(content.get(at..).unwrap_or(""), c));
+        next = at.saturating_add(raw_len(tail(content, at), c));
     }
     next
 }
 
 /// Returns the offset after each backslash at the end of a line, with the white space behind it.
 fn after_blank(content: &str, at: usize) -> usize {
-    let mut rest = content.get(at..).unwrap_or("");
+    let mut rest = tail(content, at);
     for _ in 0..content.len() {
         match rest.strip_prefix('\\') {
             Some(blank) if blank.starts_with([' ', '\t', '\r', '\n']) => {
@@ -48,7 +51,7 @@ fn after_blank(content: &str, at: usize) -> usize {
             _ => break,
         }
     }
-    content.len().saturating_sub(rest.len())
+    offset_of(content, rest)
 }
 
 /// Returns the length of what stands for a character at the front of the content.

@@ -3,7 +3,7 @@
 use std::alloc::{AllocError, Global};
 use toml::Value;
 use toml_parser::text::{first, skip_blank, skip_ws};
-use toml_parser::{dotted_key, quoted, starts_string};
+use toml_parser::{RECURSION_LIMIT, quoted, starts_string};
 
 /// A step from a table or an array to a value in it.
 #[derive(Clone, Copy)]
@@ -13,11 +13,13 @@ pub(crate) enum Step<'a> {
     Item(usize),
 }
 
-/// The document from the last part of a key on, and from its value on. That of a header is the header, and that of a part which other parts
-/// follow is the part. An item of an array has no key, but its value twice.
+/// The document from the last part of a key on, and from its value on. That of a header is the
+/// header, and that of a part which other parts follow is the part. An item of an array has no key,
+/// but its value twice.
 pub(crate) type Entry<'a> = (&'a str, &'a str);
 
-/// The steps of a path that are left in a table or behind a key, or `None` if the path does not lead there.
+/// The steps of a path that are left in a table or behind a key, or `None` if the path does not
+/// lead there.
 type StepsLeft<'a> = Option<&'a [Step<'a>]>;
 
 /// A walk through a document that `toml` has read, along a path.
@@ -28,14 +30,16 @@ struct Walk<'a> {
     rest: &'a str,
     /// What is left of the path in the table that is open.
     left: StepsLeft<'a>,
-    /// How many items have begun with a header in two brackets, by the number of steps that are left.
+    /// How many items have begun with a header in two brackets, by the number of steps that are
+    /// left.
     item_counts: Vec<usize>,
     /// The first part of a longer key that makes the table where the path ends.
     implied: Option<Entry<'a>>,
 }
 
-/// Returns the entry to which a path leads, which is one in the document's values. A table that has no header or brace begins with the first
-/// key that makes it, and the one at the top with the document.
+/// Returns the entry to which a path leads, which is one in the document's values. A table that has
+/// no header or brace begins with the first key that makes it, and the one at the top with the
+/// document.
 pub(crate) fn entry_of<'a>(
     alloc: Global,
     document: &'a str,
@@ -60,7 +64,8 @@ pub(crate) fn entry_of<'a>(
 }
 
 impl<'a> Walk<'a> {
-    /// Passes a header or an entry of a table. Returns the entry where the path ends if it is found.
+    /// Passes a header or an entry of a table. Returns the entry where the path ends if it is
+    /// found.
     fn step(&mut self) -> Result<Option<Entry<'a>>, AllocError> {
         let rest = next_item(self.rest);
         match first(rest) {
@@ -85,7 +90,8 @@ impl<'a> Walk<'a> {
         Ok(matches!(self.left, Some([])).then_some((key, header)))
     }
 
-    /// Passes an entry of the table that is open, or goes into its inline table if the path leads there.
+    /// Passes an entry of the table that is open, or goes into its inline table if the path leads
+    /// there.
     fn entry(&mut self, entry: &'a str) -> Result<Option<Entry<'a>>, AllocError> {
         let (left, key, rest) = self.key(entry, self.left)?;
         let mut found = (key, skip_ws(tail(rest, 1)));
@@ -108,7 +114,8 @@ impl<'a> Walk<'a> {
         Ok(None)
     }
 
-    /// Passes a key. Returns what is left of the path behind it, the document from its last part on, and the document behind it.
+    /// Passes a key. Returns what is left of the path behind it, the document from its last part
+    /// on, and the document behind it.
     fn key(
         &mut self,
         key: &'a str,
@@ -144,39 +151,43 @@ impl<'a> Walk<'a> {
     }
 }
 
-/// Returns the offset of the part at which the key at an offset, which can be that of a header, cannot be defined: the first that cannot be
-/// extended, or else the last.
+/// Returns the offset of the part at which the key at an offset, which can be that of a header,
+/// cannot be defined: the first that cannot be extended, or else the last.
 pub(crate) fn wrong_part(alloc: Global, document: &str, at: usize) -> Result<usize, AllocError> {
-    let mut part = tail(document, at).trim_start_matches(['[', ' ', '\t']);
-    let (key, after_key) = dotted_key(alloc, part).map_err(|_| AllocError)?;
-    // No key of the document is as long.
-    let fresh = "x".repeat(alloc, document.len())?;
-    let mut parts = Vec::new(alloc);
-    for _ in &key.path {
-        let (_, rest) = name_at(alloc, part)?;
-        parts.push((part, rest))?;
+    let key = tail(document, at).trim_start_matches(['[', ' ', '\t']);
+    let (mut parts, mut rest, mut part) = (Vec::new(alloc), key, key);
+    for _ in 0..RECURSION_LIMIT {
+        rest = name_at(alloc, part)?.1;
+        parts.push((offset_of(document, part), offset_of(document, rest)))?;
+        if first(rest) != b'.' {
+            break;
+        }
         part = skip_ws(tail(rest, 1));
     }
-    // A part behind one that cannot be extended cannot be extended either.
-    let (mut low, mut high) = (0, parts.len());
-    for _ in 0..64 {
+    // No key of the document is as long.
+    let fresh = "x".repeat(alloc, document.len())?;
+    // A part after one that cannot be extended cannot be extended either.
+    let (mut low, mut high) = (0, parts.len().saturating_sub(1));
+    for _ in 0..RECURSION_LIMIT {
         if low >= high {
             break;
         }
         let middle = low + (high - low) / 2;
-        let Some((_, rest)) = parts.get(middle) else {
-            break;
-        };
-        let front = document.strip_suffix(*rest).unwrap_or("");
-        let text = format!(in alloc; "{front}.{fresh}{after_key}")?;
+        let end = parts.get(middle).map_or(at, |part| part.1);
+        let front = document.get(..end).unwrap_or("");
+        let text = format!(in alloc; "{front}.{fresh}{rest}")?;
         if error_start(toml::table_from_str(alloc, &text))? == Some(at) {
             high = middle;
         } else {
             low = middle + 1;
         }
     }
-    let part = parts.get(low).map_or(part, |part| part.0);
-    Ok(document.len().saturating_sub(part.len()))
+    Ok(parts.get(low).map_or(at, |part| part.0))
+}
+
+/// Returns the offset of a string at the end of a document.
+pub(crate) fn offset_of(document: &str, rest: &str) -> usize {
+    document.len().saturating_sub(rest.len())
 }
 
 /// Returns the part of a key at the front, and the document behind it and blanks.
@@ -224,6 +235,6 @@ fn error_start<T: Drop>(read: Result<T, toml::de::Error>) -> Result<Option<usize
 }
 
 /// Returns the string after an offset.
-fn tail(text: &str, at: usize) -> &str {
+pub(crate) fn tail(text: &str, at: usize) -> &str {
     text.get(at..).unwrap_or("")
 }

@@ -6,7 +6,7 @@ ghost use Rattle.humantime_settings.specs.Positions.{IsErrorIn, line_of};
 
 use crate::error::{SettingsError, error_at};
 use crate::error_range::{error_from, range_at};
-use crate::toml_positions::{Step, entry_of, wrong_part};
+use crate::toml_positions::{Step, entry_of, offset_of, tail, wrong_part};
 use humantime_std::located::Located;
 use serde::{DeserializeOwned, Kind, Serialize};
 use serde_trace::{Cause, Part, Rejection, Traced, Unexpected};
@@ -18,13 +18,18 @@ use toml_parser::ErrorKind;
 ///
 /// # Errors
 ///
-/// Returns [`SettingsError::At`] where the document is not TOML, and with an error of a value or a key: of several, the one whose keys sort
-/// first, but an enum's tag before, and flattened keys after all others. The position is
+/// A document that is not TOML has that error alone; else the error is the first that the type
+/// meets, in the order of the sorted keys of each table: an enum's tag first, flattened keys last,
+/// and missing keys after wrong values.
+///
+/// Returns [`SettingsError::At`] for an error in the document. The position is
 ///
 /// - in a string or a key that is no duration or timestamp: what is wrong in it;
-/// - of another wrong value, or of an unknown or a duplicate key, or the part of it that is wrong: its start;
-/// - of a missing key: the start of its table. This is its header or its brace, or the first key that makes it, and of the table at the top
-///   the start of the document.
+/// - of another wrong value, or of an unknown or a duplicate key, or the part of it that is wrong:
+///   its start;
+/// - of a missing key: the start of its table. This is its header or its brace, or the first key
+///   that makes it, and of the table at the top the start of the document;
+/// - of a string that is not TOML: where it stops being TOML.
 ///
 /// Returns [`SettingsError::OutOfMemory`] if an allocation fails.
 ///
@@ -39,32 +44,32 @@ use toml_parser::ErrorKind;
 ///
 /// let waits: Waits = from_toml(rt.alloc(), "first = '1s'\nsecond = '1m 30s'\n")?;
 /// assert_eq!(rt; waits.get("second"), Some(&AsText(StdDuration::from_secs(90))));
-/// let error = from_toml::<Waits>(rt.alloc(), "first = '1s'\nsecond = '1m 30'\n").err().ok_or("read")?;
-/// assert_eq!(rt; error.to_string(rt.alloc())?.as_str(), "line 2, column 16: time unit needed, for example 30sec or 30ms\nsecond = '1m 30'\n               ^");
+/// let text = "first = '1s'\nsecond = '1m 30'\n";
+/// let error = from_toml::<Waits>(rt.alloc(), text).err().ok_or("read")?;
+/// let shown = error.to_string(rt.alloc())?;
+/// assert!(rt; shown.starts_with("line 2, column 16: time unit needed, for example 30sec"));
+/// assert!(rt; shown.ends_with("\nsecond = '1m 30'\n               ^"));
 /// ```
 pub fn from_toml<T: DeserializeOwned>(alloc: Global, text: &str) -> Result<T, SettingsError>
     ensures document { OnOk result (IsSome (parse_document text.now)) }
     ensures position { IfErr result (IsErrorIn text.now) }
     ensures positioned { (message : _) → result ≢ Err (SettingsError.WithoutPosition message) }
 {
-    if let Ok(value) = toml::from_str::<T>(alloc, text) {
-        return Ok(value);
+    match toml::from_str::<T>(alloc, text) {
+        Ok(value) => Ok(value),
+        Err(error) => {
+            let error = located::<T>(alloc, text, &error)?;
+            Err(error_at(alloc, text, error)?)
+        }
     }
-    let rejection = match toml::from_str::<Traced<T>>(alloc, text) {
-        Ok(Traced(Ok(value))) => return Ok(value),
-        Ok(Traced(Err(rejection))) => rejection,
-        Err(error) => return Err(document_error(alloc, text, &error)?),
-    };
-    let error = located(alloc, text, rejection)?;
-    Err(error_at(alloc, text, error)?)
 }
 
 /// Writes settings in TOML.
 ///
 /// # Errors
 ///
-/// Returns [`SettingsError::WithoutPosition`] if a value cannot be written, such as a timestamp that is not from 1970 to 9999, and
-/// [`SettingsError::OutOfMemory`] if an allocation fails.
+/// Returns [`SettingsError::WithoutPosition`] if a value cannot be written, such as a timestamp
+/// that is not from 1970 to 9999, and [`SettingsError::OutOfMemory`] if an allocation fails.
 ///
 /// # Examples
 ///
@@ -87,38 +92,66 @@ pub fn to_toml<T: Serialize>(alloc: Global, value: &T) -> Result<String, Setting
     }
 }
 
+/// Returns the error of a document that `toml` rejects with this one.
+fn located<T: DeserializeOwned>(
+    alloc: Global,
+    text: &str,
+    error: &toml::de::Error,
+) -> Result<Located<String>, AllocError> {
+    if error.is_memory() {
+        return Err(AllocError);
+    }
+    let values = match toml::table_from_str(alloc, text) {
+        Ok(table) => Value::Table(table),
+        Err(error) => return document_error(alloc, text, &error),
+    };
+    match toml::from_str::<Traced<T>>(alloc, text) {
+        Ok(Traced(Err(rejection))) => rejected(alloc, text, &values, rejection),
+        Ok(Traced(Ok(_value))) => Ok(error_from(0, String::from_str(alloc, error.message())?)),
+        Err(_error) => Err(AllocError),
+    }
+}
+
 /// Returns the error of a string that is not TOML.
 fn document_error(
     alloc: Global,
     text: &str,
     error: &toml::de::Error,
-) -> Result<SettingsError, AllocError>
-    ensures position { IfOk result (IsErrorIn text.now) }
-    ensures positioned { (message : _) → result ≢ Ok (SettingsError.WithoutPosition message) }
-{
-    let Some(span) = error.span() else {
-        return Ok(SettingsError::OutOfMemory);
-    };
-    let mut at = span.start;
+) -> Result<Located<String>, AllocError> {
+    let span = error.span().ok_or(AllocError)?;
+    let (start, word) = (span.start, text.get(span).unwrap_or(""));
     let is = |kind: ErrorKind| error.message() == kind.description();
-    if is(ErrorKind::DuplicateKey) || is(ErrorKind::Extend) {
-        at = wrong_part(alloc, text, at)?;
+    let at = if is(ErrorKind::DuplicateKey) || is(ErrorKind::Extend) {
+        wrong_part(alloc, text, start)?
+    } else {
+        start
+    };
+    if let (true, Some((first, _))) = (is(ErrorKind::Value), word.split_once(' ')) {
+        return after_word(alloc, text, start.saturating_add(first.len()));
     }
-    let error = error_from(at, String::from_str(alloc, error.message())?);
-    Ok(error_at(alloc, text, error)?)
+    Ok(error_from(at, String::from_str(alloc, error.message())?))
+}
+
+/// Returns the error of a document with a space at this offset, after which `toml` expects a time.
+fn after_word(alloc: Global, text: &str, space: usize) -> Result<Located<String>, AllocError> {
+    let (front, rest) = (text.get(..space).unwrap_or(""), tail(text, space));
+    let apart = format!(in alloc; "{front} {rest}")?;
+    let Err(error) = toml::table_from_str(alloc, &apart) else {
+        return Err(AllocError);
+    };
+    let start = error.span().ok_or(AllocError)?.start;
+    let at = start.saturating_sub(usize::from(start > space));
+    Ok(error_from(at, String::from_str(alloc, error.message())?))
 }
 
 /// Returns the error of a value.
-fn located(
+fn rejected(
     alloc: Global,
     text: &str,
+    values: &Value,
     mut rejection: Rejection,
 ) -> Result<Located<String>, AllocError> {
-    let Ok(table) = toml::table_from_str(alloc, text) else {
-        return Err(AllocError);
-    };
-    let values = Value::Table(table);
-    let (steps, value) = way(alloc, &values, &rejection.path)?;
+    let (steps, value) = way(alloc, values, &rejection.path)?;
     if matches!(value, Value::Datetime(_))
         && (steps.len() < rejection.path.len() || rejection.part == Part::End)
     {
@@ -136,8 +169,7 @@ fn located(
     } else {
         value
     };
-    let at = text.len().saturating_sub(rest.len());
-    range_at(alloc, text, at, &rejection, found)
+    range_at(alloc, text, offset_of(text, rest), &rejection, found)
 }
 
 /// Returns the steps of a path, at most to a date-time, and the value to which they lead.
