@@ -8,6 +8,7 @@ mod documents;
 mod drawn;
 mod first_errors;
 mod printed;
+mod rare;
 mod refused;
 pub(crate) mod support;
 mod types;
