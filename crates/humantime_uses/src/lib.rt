@@ -11,6 +11,7 @@ pub mod carets;
 pub mod displays;
 pub mod durations;
 pub mod laws;
+pub mod settings;
 pub mod spans;
 pub mod std_limits;
 pub mod std_traits;
