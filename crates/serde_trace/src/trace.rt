@@ -101,6 +101,17 @@ enum Key {
     Name(usize),
     /// A name that an earlier key stands for, too.
     Again(usize),
+    /// A name whose value is skipped, as by the types that share a map with the one that reads it.
+    Skipped(usize),
+}
+
+impl Key {
+    fn skipped(self) -> Key {
+        match self {
+            Key::Name(name) => Key::Skipped(name),
+            key => key,
+        }
+    }
 }
 
 /// What the last step has read, as far as an error tells it.
@@ -199,10 +210,12 @@ impl<'a, 'de, 's, F: Format> Trace<'a, 'de, 's, F> {
     /// Returns the key of another entry that stands for this name.
     fn key_of(&self, name: usize) -> Key {
         if let Some(level) = self.levels.last() {
-            // From the last one on: of a name that comes often, each is passed over once.
+            // From the last one on, so that a name that comes often is found soon.
             for key in level.keys.iter().rev() {
-                if *key == Key::Name(name) || *key == Key::Again(name) {
-                    return Key::Again(name);
+                match *key {
+                    Key::Name(seen) | Key::Again(seen) if seen == name => return Key::Again(name),
+                    Key::Skipped(seen) if seen == name => return Key::Name(name),
+                    _ => {}
                 }
             }
         }
@@ -561,9 +574,8 @@ impl<F: Format> Format for Trace<'_, '_, '_, F> {
 
     fn skip(&mut self, _input: &[u8]) -> Result<(), Stop> {
         if let (Part::Key, Some(level)) = (self.part, self.levels.last_mut()) {
-            // Of the types that share a map, each skips the entries that others have read.
             if let Some(key) = level.keys.last_mut() {
-                *key = Key::Other;
+                *key = key.skipped();
             }
         }
         read!(self.skip(), Unit, "a value")
