@@ -394,7 +394,7 @@ const NO_JSON: &[Row<'static>] = &[
     ),
     ("expected value", &[r#"{"speed":"quick","a":^nul}"#]),
     ("expected `:`", &[r#"{"word":5,"a"^}"#]),
-    ("invalid string", &[r#"{"word":5,"a":^"\q"}"#]),
+    ("invalid string", &[r#"{"word":5,"a":"\^q"}"#]),
 ];
 
 #[test]
