@@ -34,13 +34,15 @@ pub fn lines_at<E: Display + Drop>(
 
 /// Returns the report of an error, if there is one: what is wrong, the line, and below it carets under the bytes of the error.
 #[tactic(auto, using(crate::proofs::ShownLines::shows_range))]
-pub fn lines_of<T: Drop, E: Display + Drop>(
+fn lines_of<T: Drop, E: Display + Drop>(
     alloc: Global,
     text: &str,
     parsed: Result<T, Located<E>>,
 ) -> Lines
     requires { IfErr parsed (λ error. IsRangeIn text.now error.start error.end) }
-    ensures { IfErr parsed (λ error. IfSome (E.output error.error) (λ message. IfOk result (λ lines. ShowsRange text.now message error.start error.end (string_bytes lines)))) }
+    ensures { IfErr parsed (λ error. IfSome (E.output error.error) (λ message.
+        IfOk result (λ lines.
+        ShowsRange text.now message error.start error.end (string_bytes lines)))) }
 {
     match parsed {
         Ok(_) => Ok(String::new(alloc)),
