@@ -65,7 +65,8 @@ pub fn run(
     Ok(0)
 }
 
-/// Returns the row of a line, and the sum of its duration and the total so far. The bytes of an error are counted from behind the tab.
+/// Returns the row of a line, and the sum of its duration and the total so far. The bytes of an
+/// error are counted from the character after the tab.
 fn row_of(line: &str, total: StdDuration) -> Result<(Row<'_>, StdDuration), Wrong<'_>> {
     let (name, text) = line.split_once('\t').ok_or(Wrong::NoTab)?;
     let duration = parse_duration(text).map_err(|error| Wrong::Duration(error))?;

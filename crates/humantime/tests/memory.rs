@@ -29,8 +29,8 @@ unsafe impl Allocator for Refusing {
     }
 }
 
-/// Returns whether the value is printed, as this text and behind another one, if this many allocations are granted. If it is not, one was
-/// refused, and none follows it.
+/// Returns whether the value is printed, as this text and after another one, if this many
+/// allocations are granted. If it is not, one was refused, and none follows it.
 fn is_printed<D: Display>(rt: &(impl Abort + AllocGlobal), value: &D, before: &str, wanted: &str, granted: i32) -> bool {
     let memory = Refusing { memory: rt.alloc(), left: Cell::new(granted) };
     let printed = if before == "" { value.to_string(&memory) } else { format!(in &memory; "{before}{value}") };

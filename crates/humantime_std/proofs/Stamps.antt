@@ -29,7 +29,7 @@ white_at bytes at found =
       ascii = grind (arith, nat_tests, first, white_is_ascii);
     }
 
--- The whitespace that is found after a date is `len` bytes behind it.
+-- The whitespace that is found after a date is `len` bytes after it.
 module _ (line : List ℕ) (len : ℕ) where
   abbrev Found : Type 0
   Found = position is_ascii_whitespace (drop 11 line) ≡ Some len

@@ -60,16 +60,18 @@ zone_len rest = if starts_with nat_eq rest (codes "Z") then 1 else if starts_wit
 abbrev pub timestamp_len : List ℕ → ℕ
 timestamp_len b = fraction_end b + zone_len (drop (fraction_end b) b)
 
--- The bytes of an error behind the layout: the first number that is out of its bounds, or what follows the longest timestamp at the front.
-abbrev pub range_behind : List ℕ → TimestampError → ℕ × ℕ
-range_behind b OutOfRange = wrong_field b
-range_behind b _ = (timestamp_len b, length b)
+-- The bytes of an error after the layout: the first number that is out of its bounds, or what
+-- follows the longest timestamp at the front.
+abbrev pub range_after : List ℕ → TimestampError → ℕ × ℕ
+range_after b OutOfRange = wrong_field b
+range_after b _ = (timestamp_len b, length b)
 
--- The bytes of an error: the first character that does not fit the layout, or the end of the text if it ends there, or those behind it.
+-- The bytes of an error: the first character that does not fit the layout, or the end of the text if
+-- it ends there; if the layout fits, those after it.
 abbrev pub error_range : Bool → List ℕ → TimestampError → ℕ × ℕ
 error_range strict b e =
     let n = fit_len strict b in
-    if n == 19 then range_behind b e else (n, char_end b n)
+    if n == 19 then range_after b e else (n, char_end b n)
 
 -- Returns an error of a text with its bytes.
 abbrev pub located : Bool → List ℕ → TimestampError → Located TimestampError
