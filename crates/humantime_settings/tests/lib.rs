@@ -1,4 +1,5 @@
-//! Tests of `humantime_settings`. The expected values were worked out by hand. They are run and not proved.
+//! Tests of `humantime_settings`. The expected values were worked out by hand. They are run and not
+//! proved.
 #![tactic(auto)]
 
 mod attributes;
