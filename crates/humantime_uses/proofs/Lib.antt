@@ -1,4 +1,5 @@
 pub mod CaretColumns
+pub mod CountedDays
 pub mod Kept
 pub mod LimitFacts
 pub mod LineWidths

@@ -8,6 +8,7 @@
 pub mod buffers;
 pub mod calendar;
 pub mod carets;
+pub mod counted_days;
 pub mod displays;
 pub mod durations;
 pub mod laws;
