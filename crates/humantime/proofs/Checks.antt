@@ -21,9 +21,9 @@ unfolding has_layout
 layout_parts bytes h = grind (arith, nat_tests)
 
 -- The digits after the point, if there is one.
-abbrev pub digits_behind_point : List ℕ → Option (List ℕ)
-digits_behind_point [] = None
-digits_behind_point (_ ∷ ds) = Some ds
+abbrev pub digits_after_point : List ℕ → Option (List ℕ)
+digits_after_point [] = None
+digits_after_point (_ ∷ ds) = Some ds
 
 -- The parts at their positions.
 abbrev pub fields_of : List ℕ → Fields
@@ -33,7 +33,7 @@ fields_of bytes = record {
   hour = (date_time_of bytes).hour;
   minute = (date_time_of bytes).minute;
   second = (date_time_of bytes).second;
-  fraction = digits_behind_point (fraction_part bytes);
+  fraction = digits_after_point (fraction_part bytes);
   zone = zone_of (drop 19 bytes);
 }
 
@@ -44,7 +44,7 @@ pub pairs_from_test : (bytes : List ℕ) → has_digits bytes ≡ true
 unfolding has_digits
 pairs_from_test bytes h = grind (arith, and_parts)
 
-pub part_digits : (part : List ℕ) → fraction_digits (digits_behind_point part) ≡ drop 1 part
+pub part_digits : (part : List ℕ) → fraction_digits (digits_after_point part) ≡ drop 1 part
 part_digits part = grind arith
 
 -- The first 19 bytes, and the rest.

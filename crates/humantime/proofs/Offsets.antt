@@ -23,8 +23,8 @@ char_at text at u here = by (chars (drop at text)) (encodes-chars (drop at text)
     by (c ∷ cs) e =
         let rest = drop at text in
         let utf8 = IsUtf8-drop text at u here.1 in
-        let behind : drop (at + len_utf8 c) text ≡ encode_utf8_all cs = drop_past_char text (encode_utf8_all cs) at c (sym e) in
-        let bytes : rest ≡ encode_utf8 c ++ drop (at + len_utf8 c) text = sym e ∙ ap (λ (x : List ℕ). encode_utf8 c ++ x) (sym behind) in
+        let after : drop (at + len_utf8 c) text ≡ encode_utf8_all cs = drop_past_char text (encode_utf8_all cs) at c (sym e) in
+        let bytes : rest ≡ encode_utf8 c ++ drop (at + len_utf8 c) text = sym e ∙ ap (λ (x : List ℕ). encode_utf8 c ++ x) (sym after) in
         let ahead = chars_past_char rest (drop (at + len_utf8 c) text) c utf8 bytes in
         let place = IsCharBoundary-past_char text (encode_utf8_all cs) at c (omega (arith, here.0)) utf8 (sym e) in
         let from_byte = char_from_byte rest (encode_utf8_all cs) c (sym e) in
@@ -68,8 +68,8 @@ pub mu_over : (text : List ℕ) (at : ℕ) → IsUtf8 text → IsCharBoundary te
 unfolding is_letter encode
 mu_over text at u place some pair =
     let d = char_at text at u (omega arith, place) in
-    let behind = drop (at + len_utf8 d.0) text in
-    grind (arith, common_steps, nat_tests, (encode_same d.0 181 behind (drop (at + 2) text)), (encode_same d.0 956 behind (drop (at + 2) text)), d)
+    let after = drop (at + len_utf8 d.0) text in
+    grind (arith, common_steps, nat_tests, (encode_same d.0 181 after (drop (at + 2) text)), (encode_same d.0 956 after (drop (at + 2) text)), d)
 
 -- Dropping the letters from an offset on drops those from the next one on.
 abbrev pub DropsLetter : List ℕ → ℕ → ℕ → Type 0

@@ -4,7 +4,7 @@ use Rattle.humantime.proofs.Definitions.{Fields, fraction_text, fraction_digits,
 use Rattle.humantime.specs.declared.date.error.TimestampError.{TimestampError}
 use Rattle.humantime.proofs.Dates.{valid_from_test}
 use Rattle.humantime.proofs.TimestampParts.{digits_hold, IsPlain, plain_bytes, zone_found, number_of_two, number_of_four, digits_from_test, zone_shown, has_two_from_test, holds_before_zone}
-use Rattle.humantime.proofs.Checks.{digits_behind_point, fields_of, all_passed, pairs_from_test, part_digits, nineteen}
+use Rattle.humantime.proofs.Checks.{digits_after_point, fields_of, all_passed, pairs_from_test, part_digits, nineteen}
 
 -- ==== A text that represents parts passes the checks, and these are the parts at their positions.
 
@@ -22,7 +22,7 @@ year_back bytes n long h first second third fourth = grind (arith, nat_tests, nu
 
 -- The bytes between the seconds and the zone.
 ending : (fraction : Option (List ℕ)) → (has_point (fraction_text fraction) ≡ true)
-    × (drop 1 (fraction_text fraction) ≡ fraction_digits fraction) × (digits_behind_point (fraction_text fraction) ≡ fraction)
+    × (drop 1 (fraction_text fraction) ≡ fraction_digits fraction) × (digits_after_point (fraction_text fraction) ≡ fraction)
 unfolding has_point
 ending fraction = grind arith
 
@@ -61,7 +61,7 @@ unfolding has_punctuation has_separator has_point
 written_shown bytes passed =
     let p = all_passed bytes passed in
     let pairs = pairs_from_test bytes p.2 in
-    let end : drop 19 bytes ≡ fraction_text (digits_behind_point (fraction_part bytes)) ++ zone_text (zone_of (drop 19 bytes)) = grind (arith, (zone_shown (drop 19 bytes)), p.4) in
+    let end : drop 19 bytes ≡ fraction_text (digits_after_point (fraction_part bytes)) ++ zone_text (zone_of (drop 19 bytes)) = grind (arith, (zone_shown (drop 19 bytes)), p.4) in
     grind (
       arith,
       common_steps,
