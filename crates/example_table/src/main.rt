@@ -79,14 +79,7 @@ fn marked_line<'a>(line: &'a str, wrong: Wrong<'_>) -> MarkedLine<'a> {
     let start = line.find('\t').map_or(line.len(), |tab| tab + 1);
     match wrong {
         Wrong::Duration(error) => error.after(start).marked_line(line),
-        _ => {
-            let (before, after) = line.split_at(start);
-            MarkedLine {
-                before,
-                part: "",
-                after,
-            }
-        }
+        _ => MarkedLine::new(line, start..start),
     }
 }
 

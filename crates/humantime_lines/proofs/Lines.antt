@@ -158,26 +158,41 @@ line_utf8 text start end utf8 range =
     (last_line_utf8 (take start text) (IsUtf8-take text start utf8 range.1), parts.0, parts.1)
 
 -- What follows a line feed, and has none, is the last line.
-pub last_line_is : (text : List ℕ) (j : ℕ) → j ≤ length text → NoCharPasses (λ c. c == 10) (drop j text) → (0 < j → get_or text (j - 1) 0 ≡ 10)
+pub last_line_is : (text : List ℕ) (j : ℕ) → j ≤ length text
+    → NoCharPasses (λ c. c == 10) (drop j text) → (0 < j → get_or text (j - 1) 0 ≡ 10)
     → drop j text ≡ after_last is_line_feed text
 last_line_is text j within none feed =
+    let rest = drop j text in
+    let byte = λ (k : ℕ). get_or-drop j text (k - j) 0 in
+    let size = length-drop j text in
     let others : (k : ℕ) → j ≤ k → k < length text → not (get_or text k 0 == 10) ≡ true =
-    λ k from inside. grind (arith, get_or-drop j text (k - j) 0, NoCharPasses-char 10 (drop j text) (k - j) none (omega arith) (omega (arith, length-drop j text))) in
-    let last = suffix_len_is (λ b. not (is_line_feed b)) text j 0 within others (λ some. grind (arith, feed some)) in
+    λ k from inside.
+    let other = NoCharPasses-char 10 rest (k - j) none (omega arith) (omega (arith, size)) in
+    grind (arith, byte k, other) in
+    let test = λ (b : ℕ). not (is_line_feed b) in
+    let last = suffix_len_is test text j 0 within others (λ some. grind (arith, feed some)) in
     ap (λ n. drop n text) (omega (arith, last, within))
 
-pub only_line_is : (text : List ℕ) → NoCharPasses (λ c. c == 10) text → text ≡ after_last is_line_feed text
+pub only_line_is : (text : List ℕ) → NoCharPasses (λ c. c == 10) text
+    → text ≡ after_last is_line_feed text
 only_line_is text none = last_line_is text 0 (omega arith) none (λ none. absurd (omega arith))
 
 pub ruleset last_lines = (last_line_is, only_line_is)
 
 -- A text has line feeds if the first one is in it.
-pub has_feeds : (text : List ℕ) → position_or_len is_line_feed text < length text → 0 < count_by is_line_feed text
-has_feeds text some = omega (arith, rw (slice_split_first is_line_feed text 0 some) at (length-slice_split is_line_feed text), length-slice_split is_line_feed (after_first is_line_feed text))
+pub has_feeds : (text : List ℕ) → position_or_len is_line_feed text < length text
+    → 0 < count_by is_line_feed text
+has_feeds text some =
+    let parts = length-slice_split is_line_feed text in
+    let more = length-slice_split is_line_feed (after_first is_line_feed text) in
+    omega (arith, rw (slice_split_first is_line_feed text 0 some) at parts, more)
 
-pub has_no_feed : (text : List ℕ) → position_or_len is_line_feed text ≡ length text → count_by is_line_feed text ≡ 0
+pub has_no_feed : (text : List ℕ) → position_or_len is_line_feed text ≡ length text
+    → count_by is_line_feed text ≡ 0
 has_no_feed text none =
-    let whole = slice_split_none is_line_feed text (λ k d few. fails_before_first is_line_feed text k d (omega (arith, none))) in
+    let fails = λ (k d : ℕ) (few : k < length text).
+    fails_before_first is_line_feed text k d (omega (arith, none)) in
+    let whole = slice_split_none is_line_feed text fails in
     omega (arith, rw whole at (length-slice_split is_line_feed text))
 
 pub ruleset first_feeds = (has_feeds, has_no_feed)

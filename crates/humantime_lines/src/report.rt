@@ -76,7 +76,8 @@ impl<'a, E> Report<'a, E> {
 
 impl<E: Display> Display for Report<'_, E> {
     ghost output = { λ r. let line = r.line in
-        option_map (λ message. report_text r.number message line.before.now line.part.now line.after.now)
+        option_map (λ message.
+        report_text r.number message line.before.now line.part.now line.after.now)
         (E.output r.error) };
 
     fn fmt<W: fmt::Write>(&self, f: &mut fmt::Formatter<W>) -> fmt::Result {

@@ -8,10 +8,12 @@ loop-piece-preserved g c = record {
   under = λ flush.
       let now = c.loop-piece.invariant.under flush in
       let filled = c.in_ok-write_repeated.ensures.styled now.wrote.flush (search rules) in
-      next_piece c.in-Some.piece.now now filled (c.in_ok-write_str.ensures.styled filled.flush (search rules)) (omega arith) (search rules);
+      let tab = c.in_ok-write_str.ensures.styled filled.flush (search rules) in
+      next_piece c.in-Some.piece.now now filled tab (omega arith) (search rules);
 }
 
 pub returns : goal.returns
 returns g c = λ flush ok.
     let now = c.loop-piece.invariant.under flush in
-    last_piece now (c.write_repeated-2.ensures.styled now.wrote.flush ok) (omega arith) (search rules)
+    let filled = c.write_repeated-2.ensures.styled now.wrote.flush ok in
+    last_piece now filled (omega arith) (search rules)
