@@ -1,6 +1,19 @@
-//! Where and why a document does not contain a value, in any format of `serde` and in its words:
-//! [`Traced`] reads a value step by step, and [`Rejection`] says what it has found if it is not
-//! there. `humantime_settings` stands on it.
+//! Where and why a document does not contain a value, in the words of `serde`: [`Traced`] reads a
+//! value in any of its formats, and a [`Rejection`] says what it has found. It is there for
+//! `humantime_settings`, and changes with it.
+//!
+//! # Examples
+//!
+//! ```
+//! use serde_trace::{Part, Traced, Unexpected};
+//!
+//! let document = r#"[[1, 2], [3, 300]]"#;
+//! let Traced(read) = serde_json::from_str::<Traced<Vec<[u8; 2]>>>(rt.alloc(), document)?;
+//! let rejection = read.err().ok_or("read")?;
+//! assert!(rt; rejection.path.as_slice() == [1, 1].as_slice() && rejection.part == Part::Value);
+//! let message = rejection.message(rt.alloc(), Unexpected::Number("300"))?;
+//! assert_eq!(rt; message.as_str(), "invalid value: integer `300`, expected an integer in range");
+//! ```
 #![tactic(auto)]
 
 mod rejection;

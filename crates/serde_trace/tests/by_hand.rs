@@ -1,0 +1,394 @@
+//! Types that read by hand.
+
+use crate::words::{assert_errors, read, words_of};
+use serde::{Deserialize, DeserializeOwned, Deserializer, Format, Kind, Name};
+use std::alloc::Global;
+use std::collections::BTreeMap;
+use std::process::Abort;
+use std::test::Fail;
+
+/// Implements the traits of a type, which reads by this block.
+macro_rules! by_hand {
+    ($type:ident, $alloc:ident, $from:ident, $block:block) => {
+        impl DeserializeOwned for $type {
+            fn deserialize_owned<F: Format>(
+                $alloc: Global,
+                $from: &mut Deserializer<'_, '_, F>,
+            ) -> Result<$type, F::Error> $block
+        }
+
+        impl<'de> Deserialize<'de> for $type {
+            fn deserialize<F: Format>(
+                alloc: Global,
+                from: &mut Deserializer<'de, '_, F>,
+            ) -> Result<$type, F::Error> {
+                $type::deserialize_owned(alloc, from)
+            }
+        }
+    };
+}
+
+/// Asserts that each document has its error, as a value, in a list, and in a map after another one.
+fn assert_each<T: DeserializeOwned>(
+    rt: &(impl Abort + AllocGlobal),
+    message: &str,
+    documents: &[&str],
+) -> Result<(), Fail> {
+    for document in documents {
+        assert_errors::<T>(rt, &[(message, &[*document])])?;
+        let [list, map] = ["[ # 'x ]", "{ a: # b: 5 }"].map(|around| around.replace(
+            rt.alloc(),
+            '#',
+            *document,
+        ));
+        assert_errors::<Vec<T>>(rt, &[(message, &[list?.as_str()])])?;
+        assert_errors::<BTreeMap<String, T>>(rt, &[(message, &[map?.as_str()])])?;
+    }
+    Ok(())
+}
+
+#[derive(Drop)]
+struct Mode;
+
+by_hand!(Mode, alloc, from, {
+    if from.string(alloc)?.as_str() == "slow" { Ok(Mode) } else { Err(from.unknown_variant()) }
+});
+
+#[derive(Drop)]
+struct Level;
+
+by_hand!(Level, _alloc, from, {
+    if from.u64()? < 3 { Ok(Level) } else { Err(from.unknown_variant()) }
+});
+
+#[derive(Drop, Deserialize)]
+enum Speed {
+    Fast,
+}
+
+#[derive(Drop, Deserialize)]
+#[serde(untagged)]
+enum Either {
+    Speed(Speed),
+    Map { speed: Speed },
+    Number(u8),
+    Rest {},
+}
+
+#[derive(Drop, Deserialize)]
+struct Modes {
+    #[serde(default)]
+    either: Option<Either>,
+    mode: Option<Mode>,
+    level: Option<Level>,
+}
+
+#[test]
+fn an_unknown_variant_of_a_string(rt: HostRuntime) -> Result<(), Fail> {
+    assert_errors::<Modes>(
+        &rt,
+        &[
+            (
+                "unknown variant `quick`",
+                &[
+                    "{ mode: ^'quick }",
+                    "{ either: { speed: 'Fast } mode: ^'quick }",
+                    "{ either: 7 mode: ^'quick }",
+                    "{ either: { other: 'x } mode: ^'quick }",
+                ],
+            ),
+            (
+                "invalid type: integer `5`, expected a string",
+                &["{ mode: ^5 }"],
+            ),
+        ],
+    )?;
+    // The first variant of `Either` has an unknown name before `Rest` is read.
+    assert_errors::<Modes>(
+        &rt,
+        &[(
+            "unknown variant ``",
+            &["{ either: 7 level: ^9 }", "{ either: { other: 'x } level: ^9 }"],
+        )],
+    )?;
+    assert_errors::<Either>(
+        &rt,
+        &[(
+            "data did not match any variant of untagged enum",
+            &["^'Slow", "^[ 'Slow ]", "^300"],
+        )],
+    )
+}
+
+#[derive(Drop)]
+struct Palette;
+
+by_hand!(Palette, alloc, from, {
+    from.begin_map()?;
+    for _ in 0..u64::MAX {
+        if !from.next_entry()? {
+            break;
+        }
+        if from.string(alloc)?.as_str() != "red" {
+            return Err(from.unknown_key());
+        }
+        from.skip()?;
+    }
+    Ok(Palette)
+});
+
+#[derive(Drop, Deserialize)]
+#[serde(deny_unknown_fields)]
+struct Colors {
+    #[serde(default)]
+    one: Option<One>,
+    palette: Palette,
+}
+
+#[derive(Drop, Deserialize)]
+struct One {
+    #[serde(default)]
+    n: i8,
+}
+
+#[test]
+fn an_unknown_key_of_an_entry(rt: HostRuntime) -> Result<(), Fail> {
+    assert_errors::<Colors>(
+        &rt,
+        &[
+            (
+                "unknown field `green`",
+                &[
+                    "{ one: { n: 2 } palette: { ^green: 1 } }",
+                    "{ one: { m: 2 } palette: { red: [ 1 ] ^green: 1 blue: 2 } }",
+                ],
+            ),
+            (
+                "unknown field `two`, expected `one` or `palette`",
+                &["{ palette: { red: 1 } ^two: { } }"],
+            ),
+            (
+                "invalid type: sequence, expected a map",
+                &["{ palette: ^[ 1 ] }"],
+            ),
+        ],
+    )?;
+    assert_each::<Palette>(
+        &rt,
+        "unknown field `green`",
+        &["{ ^green: 1 }", "{ red: 1 ^green: 1 }"],
+    )
+}
+
+#[derive(Drop)]
+struct NoList;
+
+by_hand!(NoList, _alloc, from, {
+    if let Kind::Seq = from.peek()? {
+        return Err(from.custom("no list"));
+    }
+    from.skip()?;
+    Ok(NoList)
+});
+
+/// What a word reads: it looks for a string, and calls `invalid` or an empty `custom`.
+#[derive(Drop)]
+struct Word;
+
+by_hand!(Word, _alloc, from, {
+    if from.take_unit()? {
+        return Err(from.custom(""));
+    }
+    match from.peek()? {
+        Kind::Str => from.skip()?,
+        _ => return Err(from.invalid()),
+    }
+    Ok(Word)
+});
+
+#[derive(Drop, Deserialize)]
+struct Looks {
+    #[serde(default)]
+    count: i8,
+    no_list: Option<NoList>,
+    word: Option<Word>,
+}
+
+#[test]
+fn a_look_before_an_error(rt: HostRuntime) -> Result<(), Fail> {
+    assert_each::<NoList>(&rt, "no list", &["^[ 1 ]", "^( 1 )"])?;
+    assert_each::<Word>(&rt, "invalid value", &["^5", "^{ }", "^null"])?;
+    assert_errors::<Looks>(
+        &rt,
+        &[
+            ("no list", &["{ count: 1 no_list: ^[ 1 ] }"]),
+            (
+                "invalid value",
+                &[
+                    "{ count: 1 word: ^5 }",
+                    "{ word: ^[ 1 ] no_list: [ ] }",
+                    "{ word: ^? }",
+                    "{ no_list: ^? }",
+                ],
+            ),
+        ],
+    )?;
+    assert_errors::<Option<Option<Word>>>(&rt, &[("invalid value", &["^5"])])
+}
+
+/// A string with an error of each kind.
+#[derive(Drop)]
+struct Pair;
+
+by_hand!(Pair, alloc, from, {
+    match from.string(alloc)?.as_str() {
+        "missing" => Err(from.missing("a_b")),
+        "duplicate" => Err(from.duplicate("a")),
+        "unknown" => Err(from.unknown_variant()),
+        "length" => Err(from.wrong_len()),
+        "invalid" => Err(from.invalid()),
+        "custom" => Err(from.custom("no at line 7")),
+        _ => Ok(Pair),
+    }
+});
+
+#[test]
+fn an_error_of_a_string(rt: HostRuntime) -> Result<(), Fail> {
+    assert_each::<Pair>(&rt, "missing field `a_b`", &["^'missing"])?;
+    assert_each::<Pair>(&rt, "unknown variant `unknown`", &["^'unknown"])?;
+    assert_each::<Pair>(&rt, "invalid length 0", &["^'length"])?;
+    assert_each::<Pair>(&rt, "invalid value", &["^'invalid"])?;
+    assert_each::<Pair>(&rt, "no at line 7", &["^'custom"])?;
+    assert_each::<Pair>(&rt, "invalid type: integer `5`, expected a string", &["^5"])?;
+    assert_errors::<BTreeMap<String, Pair>>(
+        &rt,
+        &[("duplicate field `b`", &["{ a: 'x ^b: 'duplicate }"])],
+    )
+}
+
+#[derive(Drop, Deserialize)]
+#[serde(rename_all = "camelCase")]
+struct Optional {
+    a_b: Option<u8>,
+}
+
+#[derive(Drop, Deserialize)]
+struct Pairs {
+    optional: Optional,
+    pair: Pair,
+}
+
+#[test]
+fn a_name_that_another_entry_lacks(rt: HostRuntime) -> Result<(), Fail> {
+    assert_errors::<Pairs>(
+        &rt,
+        &[("missing field `a_b`", &["{ optional: { } pair: ^'missing }"])],
+    )
+}
+
+/// A sequence of which items are read ahead.
+#[derive(Drop)]
+struct Ahead;
+
+by_hand!(Ahead, _alloc, from, {
+    from.begin_seq()?;
+    from.expect_item()?;
+    let start = from.mark();
+    from.skip()?;
+    from.expect_item()?;
+    from.rewind(start);
+    from.release(start);
+    Err(from.custom("ahead"))
+});
+
+#[test]
+fn items_that_are_read_ahead(rt: HostRuntime) -> Result<(), Fail> {
+    assert_each::<Ahead>(&rt, "ahead", &["[ ^1 2 3 ]", "[ ^[ 1 ] { a: 1 } ]"])
+}
+
+/// An item that begins, but is not read.
+#[derive(Drop)]
+struct Item;
+
+by_hand!(Item, _alloc, from, {
+    from.begin_seq()?;
+    let is_more = from.next_item()?;
+    if is_more { Err(from.invalid()) } else { Err(from.wrong_len()) }
+});
+
+/// A number that is read as another type, and then rejected.
+#[derive(Drop)]
+struct Checked;
+
+by_hand!(Checked, alloc, from, {
+    let one = One::deserialize_owned(alloc, from)?;
+    if one.n > 0 { Ok(Checked) } else { Err(from.invalid()) }
+});
+
+#[derive(Drop)]
+struct Integer;
+
+by_hand!(Integer, _alloc, from, {
+    match from.i64() {
+        Ok(_) => Ok(Integer),
+        Err(error) if from.is_fatal(&error) => Err(error),
+        Err(_) => Err(from.invalid()),
+    }
+});
+
+#[test]
+fn an_invalid_value(rt: HostRuntime) -> Result<(), Fail> {
+    assert_each::<Item>(
+        &rt,
+        "invalid value",
+        &["[ ^1 2 ]", "( ^1 2 )", "[ ^[ 1 ] ]"],
+    )?;
+    assert_each::<Item>(&rt, "invalid length 0", &["^[ ]"])?;
+    assert_each::<Checked>(
+        &rt,
+        "invalid value",
+        &["^{ }", "^{ n: 0 }", "^{ m: 1 }", "^[ 0 ]"],
+    )?;
+    assert_each::<Integer>(&rt, "invalid value", &["^'x", "^[ 1 ]", "^1.5"])
+}
+
+/// A map in which the last of several keys counts.
+#[derive(Drop)]
+pub(crate) struct LastWins;
+
+by_hand!(LastWins, alloc, from, {
+    from.begin_map()?;
+    for _ in 0..u64::MAX {
+        match from.next_key(&[Name::exact("a"), Name::exact("b")])? {
+            Some(0) => drop(One::deserialize_owned(alloc, from)?),
+            Some(_) => from.skip()?,
+            None => break,
+        }
+    }
+    Ok(LastWins)
+});
+
+#[test]
+fn keys_that_may_come_twice(rt: HostRuntime) -> Result<(), Fail> {
+    let words = words_of(
+        rt.alloc(),
+        "{ a: { n: 1 } b: 1 a: { n: 2 } b: 'x b: [ ] a: { } }",
+    )?;
+    assert!(rt; read::<LastWins>(rt.alloc(), &words)?.0.is_ok());
+    assert_errors::<LastWins>(
+        &rt,
+        &[
+            (
+                "invalid value: integer `300`, expected an integer in range",
+                &[
+                    "{ a: { n: 1 } a: { n: ^300 } }",
+                    "{ b: [ ] a: { } c: 1 a: { n: ^300 } b: 1 }",
+                ],
+            ),
+            (
+                "duplicate field `n`",
+                &["{ b: 1 b: 2 a: { n: 1 ^n: 2 } a: 5 }"],
+            ),
+        ],
+    )
+}
