@@ -713,7 +713,9 @@ fn assert_all_found(
         let (part, name, entry) = kinds[number % kinds.len()];
         let rest = number / kinds.len();
         let document = filled(rt, documents[rest % documents.len()], &[("ENTRY", entry)])?;
-        let wrong = ((part, name, ""), rest / documents.len() % 3);
+        // Mostly the first of its kind is wrong, and at times none.
+        let nth = [1, 1, 2, 1, 0][rest / documents.len() % 5];
+        let wrong = ((part, name, ""), nth);
         found += is_wrong(rt, reads!(Config), (is_json, seed), wrong, &document)? as u32;
         seed += 1;
     }
