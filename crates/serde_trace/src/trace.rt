@@ -72,6 +72,8 @@ struct Trace<'a, 'de, 's, F: Format> {
     fatal: Option<F::Error>,
     /// What is around the value, and the maps and sequences that are open.
     levels: Vec<Level>,
+    /// The level that has ended last, into which a mark may go back, until another one begins.
+    closed: Option<Level>,
     /// What of an entry or an item the last step has read, and what the next one reads.
     part: Part,
     next: Part,
@@ -150,6 +152,7 @@ impl<'a, 'de, 's, F: Format> Trace<'a, 'de, 's, F> {
             from,
             fatal: None,
             levels: Vec::new(alloc),
+            closed: None,
             part: Part::Value,
             next: Part::Value,
             last: Last::Value,
@@ -176,6 +179,7 @@ impl<'a, 'de, 's, F: Format> Trace<'a, 'de, 's, F> {
     fn open(&mut self, is_again: bool) -> Result<(), AllocError>
         ensures { self.new.from ≡ self.old.from }
     {
+        self.closed = None;
         let (keys, lacking) = (Vec::new(self.alloc), Vec::new(self.alloc));
         Ok(
             self.levels.push(Level {
@@ -237,7 +241,7 @@ impl<'a, 'de, 's, F: Format> Trace<'a, 'de, 's, F> {
         if is_more {
             self.begin(Key::Other, part, part)?;
         } else {
-            drop(self.close());
+            self.closed = self.close();
         }
         Ok(())
     }
@@ -265,6 +269,7 @@ impl<'a, 'de, 's, F: Format> Trace<'a, 'de, 's, F> {
                 level.lacking.push((name, key))?;
             }
         }
+        self.closed = Some(map);
         Ok(())
     }
 
@@ -592,6 +597,12 @@ impl<F: Format> Format for Trace<'_, '_, '_, F> {
 
     fn rewind(&mut self, back: Back<F::Mark>) {
         self.from.rewind(back.mark);
+        if self.levels.len() + 1 == back.levels
+            && let Some(level) = self.closed.take()
+        {
+            // It was popped from there, so there is room for it.
+            let _is_kept = self.levels.push(level);
+        }
         self.levels.truncate(back.levels);
         if let Some(level) = self.levels.last_mut() {
             level.keys.truncate(back.keys);
