@@ -73,11 +73,21 @@ fraction_extended f ds c p h is some few power =
       fits = rw power (omega (arith, sum, below, digit_range c is, pow-le-pow_right {n = 10} (omega arith) {i = 1} {j = k} (omega (arith, within))));
     }
 
+-- The value of a fraction with another digit fits.
+pub digit_fits : (f : Fraction) (ds : List ℕ) (c p : ℕ) → HasDigits f ds → is_digit c ≡ true → c ≢ 48 → f.len + 1 ≤ 19 → p ≡ 10 ^ (f.len + 1 - f.exponent)
+    → f.significand * p + (c - 48) < 2 ^ 64
+digit_fits f ds c p h is some few power = digits_fit _ _ (fraction_extended f ds c p h is some few power)
+
+-- So does the product to which the digit is added.
+pub shift_fits : (f : Fraction) (ds : List ℕ) (c p : ℕ) → HasDigits f ds → is_digit c ≡ true → c ≢ 48 → f.len + 1 ≤ 19 → p ≡ 10 ^ (f.len + 1 - f.exponent)
+    → f.significand * p < 2 ^ 64
+shift_fits f ds c p h is some few power = omega (arith, digit_fits f ds c p h is some few power)
+
 -- What the first digit of a number needs.
 pub ruleset numbers = (first_digit, digit_is)
 
 -- What appending a digit to a fraction needs.
-pub ruleset fractions = (fewer, significant_long, significant_zero, digit_range, common_steps)
+pub ruleset fractions = (fewer, digit_fits, shift_fits, significant_long, significant_zero, digit_range, common_steps)
 
 -- What reading a span from its fraction on needs.
 pub ruleset spans = (tail_boundary, tail_place, tail_tail, encodes-chars, nat_tests)

@@ -1,6 +1,7 @@
 -- The parts of a timestamp: numbers, fraction, punctuation and zone.
-use Rattle.humantime.proofs.Prelude.{◌≡◌, ℕ, suc, ◌+◌, ◌*◌, ◌<◌, List, [], ◌∷◌, length, refl, add-one, arith, rules, zero, ◌/◌, ◌^◌, ◌++◌, replicate, get_or, take, drop, ◌≢◌, sym, append_assoc, drop-cons, drop_of_length-le, IsInRange, nat_tests, digit_value_digit, common_steps, is_ascii_digit, digit_value, all_ascii_digits, byte, digits_value_after, ⊤, ◌-◌, ◌≤◌, true, slice_index, slice_range, min, if◌then◌else◌, Ok, Err, ◌==◌, ◌&&◌, codes, nat_eq, AllByRecursion, ends_with, pow-suc, mul-le-mul_left, div-div-eq-div-mul, take-append-drop, drop_more}
+use Rattle.humantime.proofs.Prelude.{◌≡◌, ℕ, suc, ◌+◌, ◌*◌, ◌<◌, List, [], ◌∷◌, length, refl, add-one, arith, rules, zero, ◌/◌, ◌^◌, ◌++◌, replicate, get_or, take, drop, ◌≢◌, sym, append_assoc, drop-cons, drop_of_length-le, IsInRange, nat_tests, digit_value_digit, common_steps, is_ascii_digit, digit_value, all_ascii_digits, byte, digits_value_after, ⊤, ◌-◌, ◌≤◌, true, false, slice_index, slice_range, min, if◌then◌else◌, Ok, Err, ◌==◌, ◌&&◌, codes, nat_eq, AllByRecursion, ends_with, pow-suc, mul-le-mul_left, div-div-eq-div-mul, take-append-drop, drop_more}
 use Rattle.humantime.proofs.Definitions.{has_t_and_zone, has_point, has_two, number_between, zone_of, before_zone, fraction_nanos, Fields, fraction_text, date_time_text, IsWeak, Zone, zone_text, digits_answer}
+use Rattle.humantime.specs.Timestamps.{ends_in, Letter_Z, ZeroOffset}
 use Rattle.humantime.specs.declared.date.error.TimestampError.TheVariants.{InvalidDigit}
 use Rattle.humantime.proofs.Dates.{valid_from_test}
 
@@ -139,6 +140,18 @@ plain_bytes = grind arith
 pub zone_found : (xs : List ℕ) (z : Zone) → AllByRecursion IsPlain xs → zone_of (xs ++ zone_text z) ≡ z
 unfolding zone_of
 zone_found xs z h = grind (arith, common_steps, (sym (append_assoc xs (codes "+00:0") (codes "0"))))
+
+-- The last byte.
+last_one : (bytes : List ℕ) (k : ℕ) → k + 1 ≡ length bytes → drop k bytes ≡ slice_index bytes k ∷ []
+last_one bytes k long = grind (arith, (λ (i : ℕ). drop_more bytes i 0), drop_of_length-le)
+
+-- A text does not end in both zones.
+pub one_zone : (bytes : List ℕ) → ends_in ZeroOffset bytes ≡ true → ends_in Letter_Z bytes ≡ false
+one_zone bytes h =
+    let long : 6 ≤ length bytes = search rules in
+    let last = last_one bytes (length bytes - 1) (omega (arith, long)) in
+    let six = zero_offset_at_end bytes long in
+    grind (arith, common_steps, nat_tests, last, six)
 
 -- What the test for a zone needs.
 pub ruleset zones = (zero_offset_at_end, nat_tests)

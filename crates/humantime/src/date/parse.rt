@@ -138,7 +138,7 @@ fn has_t_and_zone(bytes: &[u8]) -> bool
 
 /// Returns the bytes before the zone (`Z` or `+00:00`) at the end, or all of them if there is no zone.
 #[inline(always)]
-#[tactic(auto, unfolding(crate::specs::Timestamps::zone_of))]
+#[tactic(auto, using(crate::proofs::TimestampParts::one_zone), unfolding(crate::specs::Timestamps::zone_of))]
 fn before_zone(bytes: &[u8]) -> &[u8]
     ensures { result.now ≡ Timestamps.before_zone bytes.now }
 {

@@ -1,9 +1,8 @@
-use Rattle.humantime.proofs.Prelude.{nat_tests, common_steps, IsCharBoundary-start, ◌≡◌, ◌+◌, ◌++◌, ◌∷◌, [], get_or, chars, drop, false, arith, length-append, append-nil, append_assoc}
+use Rattle.humantime.proofs.Prelude.{nat_tests, common_steps, IsCharBoundary-start, ◌≡◌, ◌+◌, ◌++◌, ◌∷◌, [], chars, drop, false, arith, rules, length-append, append-nil, append_assoc}
 use Rattle.humantime.proofs.Definitions.{begins, is_numeric, without_trailing_zeros, number_of}
 use Rattle.humantime.proofs.SpanParts.{read_digit, read_whitespace, stops_here}
 use Rattle.humantime.proofs.Offsets.{front_is, no_chars_at}
 use Rattle.humantime.proofs.duration.scan.read_fraction.Goals as goal
-use Rattle.humantime.proofs.duration.scan.read_fraction.Goals.{else-loop-at-test, then-loop-at-test+else-is_ascii_digit+in_default}
 
 pub loop-at-init : goal.loop-at-init
 unfolding without_trailing_zeros
@@ -13,7 +12,7 @@ pub loop-at-preserved-then-is_ascii_digit : goal.loop-at-preserved-then-is_ascii
 loop-at-preserved-then-is_ascii_digit c =
     let i = c.loop-at.invariant in
     record {
-      taken = i.taken ++ get_or c.as_bytes-bytes.result.now c.loop-at.at 0 ∷ [];
+      taken = i.taken ++ _ ∷ [];
       read = grind (arith, append_assoc, (read_digit c.args.text.now c.loop-at.at c.utf8.text), i.read);
       digits = c.in_ok-fraction.ensures.pushed i.taken i.digits;
       few = grind (arith, length-append, i.few);
@@ -33,6 +32,6 @@ returns-in_err-fraction-clause-read c =
 pub returns-clause-read : goal.returns-clause-read
 returns-clause-read c =
     let i = c.loop-at.invariant in
-    let ended : begins is_numeric (chars (drop c.loop-at.at c.args.text.now)) ≡ false = grind (arith, else-loop-at-test, then-loop-at-test+else-is_ascii_digit+in_default, no_chars_at, stops_here) in
+    let ended : begins is_numeric (chars (drop c.loop-at.at c.args.text.now)) ≡ false = search (rules, no_chars_at, stops_here) in
     let front = front_is is_numeric c.args.text.now c.loop-at.at c.utf8.text i.read.place in
     grind (arith, common_steps, nat_tests, ended, append-nil, front, i.read, i.digits.parts, i.digits.few)

@@ -1,10 +1,9 @@
-use Rattle.humantime.proofs.Prelude.{nat_tests, common_steps, digit_value_digit, IsCharBoundary-start, ◌≡◌, chars, drop, false, arith}
+use Rattle.humantime.proofs.Prelude.{nat_tests, common_steps, digit_value_digit, IsCharBoundary-start, ◌≡◌, chars, drop, false, arith, rules}
 use Rattle.humantime.specs.Characters.{begins, is_numeric}
 use Rattle.humantime.proofs.Characters.{digit_is}
 use Rattle.humantime.proofs.SpanParts.{first_digit, digit_range, read_digit, read_whitespace, stops_here, value_grows}
 use Rattle.humantime.proofs.Offsets.{front_is, no_chars_at}
 use Rattle.humantime.proofs.duration.scan.read_number.Goals as goal
-use Rattle.humantime.proofs.duration.scan.read_number.Goals.{else-loop-at-test, then-loop-at-test+else-is_ascii_digit+in_default}
 
 pub loop-at-init : goal.loop-at-init
 loop-at-init c = grind (arith, nat_tests, IsCharBoundary-start, first_digit, (read_digit c.args.text.now 0 c.utf8.text), digit_value_digit, digit_range, digit_is)
@@ -22,12 +21,12 @@ returns-in_err-value-clause-read c =
 
 pub invariant_of-number-clause-read : goal.invariant_of-number-clause-read
 invariant_of-number-clause-read c =
-    let ended : begins is_numeric (chars (drop c.loop-at.at c.args.text.now)) ≡ false = grind (arith, else-loop-at-test, then-loop-at-test+else-is_ascii_digit+in_default, no_chars_at, stops_here) in
+    let ended : begins is_numeric (chars (drop c.loop-at.at c.args.text.now)) ≡ false = search (rules, no_chars_at, stops_here) in
     let front = front_is is_numeric c.args.text.now c.loop-at.at c.utf8.text c.loop-at.invariant.place in
     grind (arith, common_steps, nat_tests, ended, front, c.loop-at.invariant)
 
 pub returns-clause-read : goal.returns-clause-read
 returns-clause-read c =
-    let ended : begins is_numeric (chars (drop c.loop-at.at c.args.text.now)) ≡ false = grind (arith, else-loop-at-test, then-loop-at-test+else-is_ascii_digit+in_default, no_chars_at, stops_here) in
+    let ended : begins is_numeric (chars (drop c.loop-at.at c.args.text.now)) ≡ false = search (rules, no_chars_at, stops_here) in
     let front = front_is is_numeric c.args.text.now c.loop-at.at c.utf8.text c.loop-at.invariant.place in
     grind (arith, common_steps, nat_tests, ended, front, c.loop-at.invariant)
