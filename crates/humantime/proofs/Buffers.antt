@@ -1,5 +1,28 @@
 -- Steps that proofs by hand have in common: of calls, of clauses, and of a buffer that a result may borrow from.
-use Rattle.humantime.proofs.StandardFacts.{Ura, ex_i, upd_i, fdead, fupd, fwand, fseps, Goal, Item, Seq, Soaks, Step, step, assume, fpack, fpick, Logic, sem, bor_open, obor_alter, res_agree, Lfts, Shares, toks, such_by, follows_by, Is, hidden_shr, mem, part_at, Clauses, Ended, Lasts, at_exit, closing, Res, Array, u8, ℕ, List, [], ◌∷◌, refl, sym, w8, MutBor, full_share, SProp, id⊢, emp, ent, sep, Fml, fsep, ftrue, flft, fres, fbor, fauth, Shares-copy, c_arr, c_rf, f_int, named, Val, fact, fact_i, ‵, raw, ◌⊛◌, some, later, prop, ◌$◌, ◌∵◌, !, qed, done, move, keep, drop, use0, use1, use2, split, fsplit, fjoin, feq_i, pick, await, rewrite, suffices, frame, group, shows, ShrRef, mut_vals, type_at, heard, peeks, lasts, alive, triple_of}
+use Rattle.std.proofs.Common.{ℕ, List, [], ◌∷◌, refl, sym, w8, MutBor}
+use Rattle.std.specs.Borrow.{Array, u8}
+use base.Fml.{fdead, fupd, fwand, fseps, Fml, fsep, ftrue, flft, fres, fbor, fauth}
+use base.Fraction.{full_share}
+use base.Logic.{ex_i, upd_i, SProp, id⊢, emp, ent, sep}
+use borrow.Table.Copies.{Shares-copy, c_arr, c_rf}
+use borrow.Table.Referent.{f_int}
+use contract.Lifetimes.{Lfts, Shares, toks}
+use contract.Monad.{fact, fact_i}
+use denote.Follow.{such_by, follows_by}
+use denote.Laws.{Is, shows}
+use denote.Memory.{hidden_shr, mem, part_at}
+use denote.Ref.{ShrRef, mut_vals}
+use denote.Signature.{type_at}
+use denote.Steps.{heard, peeks}
+use denote.Triple.Clauses.{Clauses, Ended, Lasts, at_exit, closing, lasts}
+use denote.Triple.Entry.{Res, alive}
+use denote.Triple.Spec.{triple_of}
+use mir.Syntax.{named}
+use mir.Val.{Val}
+use seplogic.Ra.Ura.{Ura}
+use types.Kit.{Goal, Item, Seq, Soaks, Step, step, assume, fpack, fpick, ‵, raw, ◌⊛◌, some, later, prop, ◌$◌, ◌∵◌, !, qed, done, move, keep, drop, use0, use1, use2, split, fsplit, fjoin, feq_i, pick, await, rewrite, suffices, frame, group}
+use types.Logic.{Logic, sem}
+use types.Tokens.{bor_open, obor_alter, res_agree}
 use types.SemTy.{Body}
 use mathlib.Core.Option.{none}
 use Rattle.humantime.specs.Buffers.{BufferHolds}

@@ -1,6 +1,18 @@
 -- A duration has one printed text, and the text parses to the duration.
-use Rattle.humantime.proofs.Prelude.{arith, ◌≡◌, ◌↔◌, ℕ, List, Result, Ok, Err, refl, true, ◌*◌, ◌/◌, ◌%◌, ◌^◌, ◌<◌, ◌≤◌, [], ◌∷◌, ◌++◌, sym, ◌∙◌, chars, IsUtf8, codes, decimal, map, nat_lt, mul_assoc, mul_comm, append_assoc, append-nil, common_steps, AllByRecursion, filter, join_with_byte, mod_below, nat_tests, and_parts, chars-append, chars-IsAscii, chars-nil, IsUtf8-append, IsUtf8-from_ascii, IsAscii-decimal}
-use Rattle.humantime.proofs.Definitions.{Fault, HasFault, duration_end, nanos_per_second, IsCanonicalOf, Suffix, printed_count, joined_by_space, IsCanonicalText, duration_text, duration_answer, canonical_answer, whitespace_chars, is_whitespace, u64_max, Quantity, SpelledSpan, HasOnly, Spells, SpellsEach, quantity_nanos, size, times, total, additions_of, additions, value, Formed, fits, Accepted, SumOf}
+use Rattle.humantime.specs.Characters.{whitespace_chars, is_whitespace, u64_max}
+use Rattle.humantime.specs.DurationErrors.{Fault, HasFault}
+use Rattle.humantime.specs.DurationResults.{duration_text, duration_answer, canonical_answer}
+use Rattle.humantime.specs.Durations.{Quantity, SpelledSpan, HasOnly, Spells, SpellsEach, quantity_nanos, size, times, total, additions_of, additions, value, Formed, fits, Accepted, SumOf}
+use Rattle.humantime.specs.PrintedDurations.{IsCanonicalOf, Suffix, printed_count, joined_by_space, IsCanonicalText}
+use Rattle.humantime.specs.Values.{duration_end, nanos_per_second}
+use Rattle.std.proofs.Common.{arith, ◌≡◌, ◌↔◌, ℕ, List, Result, Ok, Err, refl, true, ◌*◌, ◌/◌, ◌%◌, ◌^◌, ◌<◌, ◌≤◌, [], ◌∷◌, ◌++◌, sym, ◌∙◌, chars, IsUtf8, codes, decimal, map, nat_lt, mul_assoc, mul_comm, append_assoc, append-nil, filter}
+use Rattle.std.proofs.lemmas.Bool.{and_parts}
+use Rattle.std.proofs.lemmas.Bool.Decides.{nat_tests}
+use Rattle.std.proofs.lemmas.Fmt.{IsAscii-decimal}
+use Rattle.std.proofs.lemmas.Grind.{common_steps}
+use Rattle.std.proofs.lemmas.Nat.{mod_below}
+use Rattle.std.proofs.lemmas.Str.{chars-append, chars-IsAscii, chars-nil, IsUtf8-append, IsUtf8-from_ascii}
+use Rattle.std.specs.List.{AllByRecursion, join_with_byte}
 use Rattle.humantime.proofs.Counts.{printed_is_canon, canon_is_text, decimal_number, space, word_for, span_for, is_of_kind, IsPrintedWord, is_word-true, sized_units, counts_of_units, is_table, table}
 use Rattle.humantime.proofs.Outcomes.{answer_accepts, answer_faults, accepted_from_outcome, outcome_accepted}
 use Rattle.humantime.proofs.Spellings.{each-append, spells-append}

@@ -1,9 +1,16 @@
 -- Classes of characters, the longest runs of a class, and the value of digits.
-use Rattle.humantime.proofs.Prelude.{◌≡◌, ◌≤◌, ◌<◌, ℕ, true, false, refl, arith, ◌≢◌, Bool, List, [], ◌∷◌, ◌++◌, length, ap, inl, inr, length-append, ◌+◌, ◌*◌, ◌/◌, ◌%◌, ◌^◌, append_assoc, reverse, ◌&&◌, ◌||◌, ◌==◌, nat_le, Decides, pow-add, nat_tests, common_steps, AllByRecursion, list_all, digits_value_after, agree_below_at, or_left, or_right, cases_Bool, length-reverse, reverse-append, reverse-reverse}
+use Rattle.humantime.specs.Characters.{whitespace_chars, is_whitespace, is_digit, is_letter, is_point, is_numeric, without_trailing_zeros, take_while, drop_while, begins, ends, decimal_value}
+use Rattle.humantime.specs.Durations.{HasOnly, has_whole_part}
+use Rattle.std.proofs.Common.{◌≡◌, ◌≤◌, ◌<◌, ℕ, true, false, refl, arith, ◌≢◌, Bool, List, [], ◌∷◌, ◌++◌, length, ap, inl, inr, length-append, ◌+◌, ◌*◌, ◌/◌, ◌%◌, ◌^◌, append_assoc, reverse, ◌&&◌, ◌||◌, ◌==◌, nat_le, Decides, pow-add}
+use Rattle.std.proofs.lemmas.Bool.{agree_below_at, or_left, or_right, cases_Bool}
+use Rattle.std.proofs.lemmas.Bool.Decides.{nat_tests}
+use Rattle.std.proofs.lemmas.Grind.{common_steps}
+use Rattle.std.proofs.lemmas.List.{length-reverse, reverse-append, reverse-reverse}
+use Rattle.std.specs.List.{AllByRecursion, list_all}
+use Rattle.std.specs.Str.Parse.{digits_value_after}
 use Rattle.std.specs.Char.{is_whitespace as std_is_whitespace, is_ascii_digit, digit_value}
 use Rattle.std.proofs.lemmas.Nat.Gcd.{dvd_of_mod-eq-zero, mod-eq-zero_of_dvd}
 use Rattle.std.proofs.Math.Nat.{pow-suc, one-le-pow, mul_assoc, mul_right_comm, mul-div-mul_right, dvd_of_mul-dvd-mul_right, le-mul_of_pos_right}
-use Rattle.humantime.proofs.Definitions.{whitespace_chars, is_whitespace, is_digit, is_letter, is_point, is_numeric, without_trailing_zeros, take_while, drop_while, begins, ends, decimal_value, HasOnly, has_whole_part}
 
 -- ==== The classes of characters are disjoint.
 

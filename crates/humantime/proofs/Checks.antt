@@ -1,6 +1,19 @@
 -- The layout of a timestamp, tested on all bytes at once.
-use Rattle.humantime.proofs.Definitions.{weak_answer, has_layout, DateAndTime, Letter_T, Space, Fields, fraction_digits, has_two, has_punctuation, has_digits, date_time_of, is_valid_date_time, zone_of, fraction_part, has_point, weak_checks, first_failed, has_separator}
-use Rattle.humantime.proofs.Prelude.{◌≡◌, ℕ, ◌≤◌, List, [], ◌∷◌, length, get_or, drop, refl, arith, ◌+◌, ◌-◌, ◌%◌, ◌^◌, ◌<◌, Bool, cond, eqb, ltb, ◌&&◌, map, replicate, take, Fits, w8, ap, ◌∙◌, ◌*◌, T, byte, all_ascii_digits, and_parts, le-leb, agree_below_at, common_steps, take_rest, nat_tests, is_ascii_digit, list_all, true, slice_index, Option, Some, None, ◌==◌, if◌then◌else◌, codes, nat_eq, bit_or, ⊤, err_from_is_err_and, list_all-map, le_or_l, le_or_r}
+use Rattle.humantime.specs.PrivateFunctions.{has_layout}
+use Rattle.humantime.specs.TimestampResults.{weak_answer}
+use Rattle.humantime.specs.Timestamps.{DateAndTime, Letter_T, Space, Fields, fraction_digits, has_two, has_punctuation, has_digits, date_time_of, is_valid_date_time, zone_of, fraction_part, has_point, weak_checks, first_failed, has_separator}
+use Rattle.std.proofs.Common.{◌≡◌, ℕ, ◌≤◌, List, [], ◌∷◌, length, get_or, drop, refl, arith, ◌+◌, ◌-◌, ◌%◌, ◌^◌, ◌<◌, Bool, cond, eqb, ltb, ◌&&◌, map, replicate, take, Fits, w8, ap, ◌∙◌, ◌*◌, T, le-leb, true, slice_index, Option, Some, None, ◌==◌, if◌then◌else◌, codes, nat_eq, bit_or}
+use Rattle.std.proofs.lemmas.Bool.{and_parts, agree_below_at}
+use Rattle.std.proofs.lemmas.Bool.Decides.{nat_tests}
+use Rattle.std.proofs.lemmas.Grind.{common_steps}
+use Rattle.std.proofs.lemmas.List.{take_rest}
+use Rattle.std.proofs.lemmas.List.Folds.{list_all-map}
+use Rattle.std.proofs.lemmas.Nat.{le_or_l, le_or_r}
+use Rattle.std.proofs.lemmas.Result.{err_from_is_err_and}
+use Rattle.std.specs.Char.{is_ascii_digit}
+use Rattle.std.specs.List.{list_all}
+use Rattle.std.specs.Prelude.{⊤}
+use Rattle.std.specs.Str.{byte, all_ascii_digits}
 use Rattle.std.proofs.lemmas.Simd.{mask_l-mod, tops_compared, length-zip2, zip2_splat}
 use native.Mathlib.Nat.{two-pow-succ, one-le-pow}
 use lib.Lanes.{zip2, mask_l, top, sel_l, dots, all_below, pair_sums, products}

@@ -1,12 +1,30 @@
 -- The counts of a duration by unit, and the texts that they print as.
-use Rattle.humantime.proofs.Prelude.{ℕ, ◌<◌, ◌≤◌, length, arith, ◌≡◌, ◌/◌, ◌%◌, List, [], ◌∷◌, refl, ap, ◌∙◌, rules, ◌++◌, ◌^◌, true, nat_cmp, IsTrue, ◌*◌, Bool, cond, ◌+◌, append_assoc, length-append, is_le, take, sym, subst, decimal, ◌==◌, if◌then◌else◌, codes, ◌&&◌, Some, None, nat_lt, nat_le, map, slice_index, ⊤, common_steps, nat_tests, mul_comm, div-add-mod, cases_lt, slice_cmp, length-decimal-le, decimal_is_IsNumeral, AllByRecursion, list_all, zip, filter, join_with_byte, AllDigits, le-div, mod_below, div_below, nat_list_cmp_total, take-put_mid, IsUtf8-append, IsUtf8-from_is_utf8}
+use Rattle.humantime.specs.Characters.{begins, decimal_value, is_digit, is_numeric, digits, is_letter, u64_max}
+use Rattle.humantime.specs.DurationResults.{divided, duration_text}
+use Rattle.humantime.specs.Durations.{HasOnly, SpelledSpan, Quantity, Nanos, Seconds, Scale, scale_of_word, quantity_nanos, size, is_some_and}
+use Rattle.humantime.specs.PrintedDurations.{Suffix, weights, suffixes, printed_count, printed_counts, joined_by_space, weighted_sum, AreCounts, IsCanonicalText}
+use Rattle.humantime.specs.PrivateFunctions.{joined_after}
+use Rattle.humantime.specs.Values.{duration_end, nanos_per_micro, nanos_per_milli, nanos_per_second, seconds_per_minute, seconds_per_hour, seconds_per_day, seconds_per_month, seconds_per_year}
+use Rattle.std.proofs.Common.{ℕ, ◌<◌, ◌≤◌, length, arith, ◌≡◌, ◌/◌, ◌%◌, List, [], ◌∷◌, refl, ap, ◌∙◌, rules, ◌++◌, ◌^◌, true, nat_cmp, IsTrue, ◌*◌, Bool, cond, ◌+◌, append_assoc, length-append, is_le, take, sym, subst, decimal, ◌==◌, if◌then◌else◌, codes, ◌&&◌, Some, None, nat_lt, nat_le, map, slice_index, mul_comm, zip, filter}
+use Rattle.std.proofs.Math.Nat.{div-add-mod}
+use Rattle.std.proofs.lemmas.Bool.{cases_lt}
+use Rattle.std.proofs.lemmas.Bool.Decides.{nat_tests}
+use Rattle.std.proofs.lemmas.Cmp.{nat_list_cmp_total}
+use Rattle.std.proofs.lemmas.Fmt.{length-decimal-le, decimal_is_IsNumeral}
+use Rattle.std.proofs.lemmas.Grind.{common_steps}
+use Rattle.std.proofs.lemmas.Nat.{le-div, mod_below, div_below}
+use Rattle.std.proofs.lemmas.Slice.{take-put_mid}
+use Rattle.std.proofs.lemmas.Str.{IsUtf8-append, IsUtf8-from_is_utf8}
+use Rattle.std.specs.Cmp.Lexicographic.{slice_cmp}
+use Rattle.std.specs.List.{AllByRecursion, list_all, join_with_byte}
+use Rattle.std.specs.Prelude.{⊤}
+use Rattle.std.specs.Str.Parse.{AllDigits}
 use Rattle.std.proofs.lemmas.Str.Parse.{digit_from_value}
 use Rattle.std.proofs.lemmas.Map.Lookups.{exact_bytes}
 use Rattle.std.specs.Cmp.{nat_cmp_is}
 use Rattle.std.specs.Str.{IsUtf8, is_utf8, chars}
 use borrow.Rule.Slice.PartMut.{put_mid}
 use lib.Utf8.{encode}
-use Rattle.humantime.proofs.Definitions.{duration_end, nanos_per_micro, nanos_per_milli, nanos_per_second, seconds_per_minute, seconds_per_hour, seconds_per_day, seconds_per_month, seconds_per_year, divided, duration_text, joined_after, Suffix, weights, suffixes, printed_count, printed_counts, joined_by_space, weighted_sum, AreCounts, IsCanonicalText, begins, decimal_value, is_digit, is_numeric, digits, is_letter, u64_max, HasOnly, SpelledSpan, Quantity, Nanos, Seconds, Scale, scale_of_word, quantity_nanos, size, is_some_and}
 use Rattle.humantime.proofs.Characters.{all_pass, digit_is_numeric}
 
 -- ==== The digits of a number in decimal, and how many they are.

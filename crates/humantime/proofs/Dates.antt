@@ -1,6 +1,12 @@
 -- Each day has exactly one date, which is computed without a loop over years.
-use Rattle.humantime.proofs.Prelude.{◌≡◌, ℕ, zero, suc, ◌+◌, ◌-◌, ◌*◌, ◌<◌, ◌≤◌, refl, arith, IsTrue, inl, inr, nat_lt, if◌then◌else◌, [], ◌∷◌, slice_index_or, min, IsInRange, nat_tests, common_steps, cases_Bool, ltb-true, ltb-false, cases_eq}
-use Rattle.humantime.proofs.Definitions.{days_in_year, days_in_month, days_of_years, days_of_months, is_valid, IsDate, day_of, march_days, march_months, march_year, march_month, march_date, date_of, IsDateOfDay, ExactlyOne}
+use Rattle.humantime.specs.Calendar.{days_in_year, days_in_month, days_of_years, days_of_months, is_valid, IsDate, day_of}
+use Rattle.humantime.specs.Laws.{IsDateOfDay, ExactlyOne}
+use Rattle.humantime.specs.TimestampResults.{march_days, march_months, march_year, march_month, march_date, date_of}
+use Rattle.std.proofs.Common.{◌≡◌, ℕ, zero, suc, ◌+◌, ◌-◌, ◌*◌, ◌<◌, ◌≤◌, refl, arith, IsTrue, inl, inr, nat_lt, if◌then◌else◌, [], ◌∷◌, slice_index_or, min, ltb-true, ltb-false}
+use Rattle.std.proofs.lemmas.Bool.{cases_Bool, cases_eq}
+use Rattle.std.proofs.lemmas.Bool.Decides.{nat_tests}
+use Rattle.std.proofs.lemmas.Grind.{common_steps}
+use Rattle.std.specs.Int.{IsInRange}
 use Rattle.humantime.specs.declared.calendar.Date.{Date}
 
 -- ==== The days of years and of months in closed form, and the ranges of the fields of a date.

@@ -1,7 +1,22 @@
 -- The items of a text, as `spans` returns them, and the slices of the text between them.
-use Rattle.humantime.proofs.Prelude.{nat_tests, if◌then◌else◌, ◌≡◌, ◌≢◌, IsUtf8, chars, arith, ℕ, Bool, true, List, [], ◌∷◌, map, Option, Result, Err, refl, ◌≤◌, ◌<◌, false, None, Ok, length, length-append, ◌++◌, Some, sym, ap, append_assoc, append-nil, flat_map, is_ok, option_to_list, common_steps, list_all, byte, append_cancel_right, list_all-append, and_parts, encodes-chars, encode_ascii}
+use Rattle.humantime.specs.Characters.{drop_while, take_while, is_whitespace, bare_zero, byte_length, is_point}
+use Rattle.humantime.specs.DurationErrors.{span_of, Empty, Fault, after_word}
+use Rattle.humantime.specs.DurationResults.{duration_answer, view_at, item_views, span_in, left_at}
+use Rattle.humantime.specs.Durations.{SpelledSpan, HasOnly}
+use Rattle.humantime.specs.Items.{SpanView, AreSpanViews, items_of, AreItems, IsDigitSlice, IsFractionView, IsSpanView}
+use Rattle.humantime.specs.Laws.{IsTiled, is_gap, slices_of}
+use Rattle.humantime.specs.PrivateFunctions.{after_space, read_span}
+use Rattle.humantime.specs.Walks.{walk, walk_of, items, sum_spans, fault_at}
+use Rattle.std.proofs.Common.{if◌then◌else◌, ◌≡◌, ◌≢◌, IsUtf8, chars, arith, ℕ, Bool, true, List, [], ◌∷◌, map, Option, Result, Err, refl, ◌≤◌, ◌<◌, false, None, Ok, length, length-append, ◌++◌, Some, sym, ap, append_assoc, append-nil, flat_map, is_ok, option_to_list}
+use Rattle.std.proofs.lemmas.Bool.{and_parts}
+use Rattle.std.proofs.lemmas.Bool.Decides.{nat_tests}
+use Rattle.std.proofs.lemmas.Grind.{common_steps}
+use Rattle.std.proofs.lemmas.List.{append_cancel_right}
+use Rattle.std.proofs.lemmas.List.Folds.{list_all-append}
+use Rattle.std.proofs.lemmas.Str.{encodes-chars, encode_ascii}
+use Rattle.std.specs.List.{list_all}
+use Rattle.std.specs.Str.{byte}
 use Rattle.humantime.proofs.Offsets.{no_bytes, some_chars}
-use Rattle.humantime.proofs.Definitions.{drop_while, take_while, is_whitespace, bare_zero, byte_length, is_point, span_of, Empty, Fault, after_word, walk, walk_of, items, sum_spans, fault_at, duration_answer, view_at, item_views, span_in, left_at, SpanView, AreSpanViews, items_of, AreItems, IsDigitSlice, IsFractionView, IsSpanView, after_space, read_span, SpelledSpan, HasOnly, IsTiled, is_gap, slices_of}
 use Rattle.humantime.proofs.TextWalks.{items_found_at, items_walked, Steps, by_walk, walk-go}
 use Rattle.humantime.proofs.Outcomes.{duration_answer-items}
 use Rattle.humantime.proofs.Spellings.{is_fine, next_of, each-append}

@@ -1,6 +1,13 @@
 -- The value of a text without whitespace, and of two texts that are joined.
-use Rattle.humantime.proofs.Prelude.{common_steps, flat_map-append, ◌≡◌, ℕ, Bool, List, [], ◌∷◌, refl, arith, ◌≢◌, ◌↔◌, ◌⊎◌, ◌+◌, true, ◌++◌, None, inl, inr, append_assoc, append-nil, sum_by-append, AllByRecursion, or_parts}
-use Rattle.humantime.proofs.Definitions.{is_whitespace, is_letter, digits, is_point, is_digit, bare_zero, SpelledSpan, HasOnly, Spells, SpellsEach, SpellsAll, Reads, Accepted, BareZero, SumOf, additions, value, Formed, fits, AllHaveRoom, additions_of, without_whitespace, AcceptedAs, NumberOverflow, HasFault}
+use Rattle.humantime.specs.Characters.{is_whitespace, is_letter, digits, is_point, is_digit, bare_zero}
+use Rattle.humantime.specs.DurationErrors.{NumberOverflow, HasFault}
+use Rattle.humantime.specs.Durations.{SpelledSpan, HasOnly, Spells, SpellsEach, SpellsAll, Reads, Accepted, BareZero, SumOf, additions, value, Formed, fits, AllHaveRoom, additions_of}
+use Rattle.humantime.specs.Laws.{without_whitespace, AcceptedAs}
+use Rattle.std.proofs.Common.{◌≡◌, ℕ, Bool, List, [], ◌∷◌, refl, arith, ◌≢◌, ◌↔◌, ◌⊎◌, ◌+◌, true, ◌++◌, None, inl, inr, append_assoc, append-nil}
+use Rattle.std.proofs.lemmas.Bool.{or_parts}
+use Rattle.std.proofs.lemmas.Grind.{common_steps, flat_map-append}
+use Rattle.std.proofs.lemmas.List.Sums.{sum_by-append}
+use Rattle.std.specs.List.{AllByRecursion}
 use Rattle.humantime.proofs.Characters.{digit_not_whitespace, letter_not_whitespace, point_not_numeric}
 use Rattle.humantime.proofs.TextWalks.{not_zero}
 use Rattle.humantime.proofs.Spellings.{each-append, respelled, spells-append, spells_each-append}

@@ -1,6 +1,3 @@
--- The names of the kit and of specs/ that proofs cite most.
-pub mod Prelude
-pub mod Definitions
 -- What callers cite.
 pub mod Theorems
 pub mod OnLiterals
@@ -29,5 +26,4 @@ pub mod PrintedTimestamps
 -- Messages, values and buffers.
 pub mod Messages
 pub mod Moments
-pub mod StandardFacts
 pub mod Buffers

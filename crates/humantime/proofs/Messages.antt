@@ -1,5 +1,8 @@
 -- Texts that are written to a formatter one after the other, whatever its options are.
-use Rattle.humantime.proofs.Prelude.{◌≡◌, ℕ, List, ◌++◌, append_assoc, refl, has_written_styled_append, has_written_styled_of_eq, HasWrittenStyled, Formatter}
+use Rattle.std.proofs.Common.{◌≡◌, ℕ, List, ◌++◌, append_assoc, refl}
+use Rattle.std.proofs.Output.{has_written_styled_append, has_written_styled_of_eq}
+use Rattle.std.specs.Fmt.{HasWrittenStyled}
+use Rattle.std.specs.declared.fmt.Formatter.{Formatter}
 
 module _ {W : Type 0} (took : W → List ℕ → W → Type 0) where
   pub two_written : (f g h : Formatter W) (a b all : List ℕ) → HasWrittenStyled took f a g → HasWrittenStyled took g b h → a ++ b ≡ all

@@ -1,5 +1,7 @@
 -- A moment and its parts, and the order of moments.
-use Rattle.humantime.proofs.Prelude.{◌≡◌, ℕ, ◌<◌, arith, rules, ℤ, nat_cmp, int_cmp, ordering_then, ints}
+use Rattle.std.proofs.Common.{◌≡◌, ℕ, ◌<◌, arith, rules, ℤ, nat_cmp, int_cmp}
+use Rattle.std.proofs.lemmas.Int.{ints}
+use Rattle.std.specs.Ordering.{ordering_then}
 use Rattle.humantime.specs.Values.{moment, second_of, nano_of}
 
 -- A moment is the sum of its parts.

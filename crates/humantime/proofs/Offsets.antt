@@ -1,7 +1,16 @@
 -- Offsets in a text, the characters at them, and the ends of a text.
-use Rattle.humantime.proofs.Prelude.{common_steps, ◌≡◌, ◌<◌, ◌≤◌, ◌+◌, ℕ, List, [], ◌∷◌, ◌++◌, length, get_or, drop, refl, ap, sym, ◌∙◌, arith, length-drop, IsUtf8, IsCharBoundary, chars, encode_utf8, encode_utf8_all, Bool, true, false, ◌≢◌, ◌-◌, take, length-append, length-take, ◌==◌, ◌&&◌, ◌||◌, nat_lt, cases_lt, ne_eqb, nat_tests, is_ascii_alphabetic, is_ascii_digit, len_utf8, get_or-drop, take-append-drop, drop-drop, append_cancel_right, IsUtf8-drop, IsCharBoundary-past_char, drop_past_char, chars_past_char, byte_from_char, char_from_byte, len_utf8_ascii, len_utf8_bounds, encodes-chars, encode_same, IsCharBoundary-start, IsUtf8-take, IsCharBoundary-from_drop, chars-append, chars-nil}
+use Rattle.humantime.specs.Characters.{begins, drop_while, take_while, is_letter, is_whitespace, is_digit, byte_length, offset_of}
+use Rattle.humantime.specs.DurationErrors.{IsCharStartIn, IsRangeIn, IsPartOf, may_follow_span}
+use Rattle.humantime.specs.PrivateFunctions.{after_space, whitespace_len}
+use Rattle.humantime.specs.PrivateTypes.{IsTail}
+use Rattle.std.proofs.Common.{◌≡◌, ◌<◌, ◌≤◌, ◌+◌, ℕ, List, [], ◌∷◌, ◌++◌, length, get_or, drop, refl, ap, sym, ◌∙◌, arith, length-drop, IsUtf8, IsCharBoundary, chars, encode_utf8, encode_utf8_all, Bool, true, false, ◌≢◌, ◌-◌, take, length-append, length-take, ◌==◌, ◌&&◌, ◌||◌, nat_lt, ne_eqb, get_or-drop, take-append-drop, drop-drop}
+use Rattle.std.proofs.lemmas.Bool.{cases_lt}
+use Rattle.std.proofs.lemmas.Bool.Decides.{nat_tests}
+use Rattle.std.proofs.lemmas.Grind.{common_steps}
+use Rattle.std.proofs.lemmas.List.{append_cancel_right}
+use Rattle.std.proofs.lemmas.Str.{IsUtf8-drop, IsCharBoundary-past_char, drop_past_char, chars_past_char, byte_from_char, char_from_byte, len_utf8_ascii, len_utf8_bounds, encodes-chars, encode_same, IsCharBoundary-start, IsUtf8-take, IsCharBoundary-from_drop, chars-append, chars-nil}
+use Rattle.std.specs.Char.{is_ascii_alphabetic, is_ascii_digit, len_utf8}
 use Rattle.std.proofs.Math.Utf8.{encode}
-use Rattle.humantime.proofs.Definitions.{IsCharStartIn, IsRangeIn, IsPartOf, may_follow_span, begins, drop_while, take_while, is_letter, is_whitespace, is_digit, byte_length, offset_of, after_space, whitespace_len, IsTail}
 use Rattle.humantime.proofs.Characters.{ascii_whitespace, digit_not_whitespace, letter_not_whitespace, whitespace_is_numeric, take_while-drop_while}
 
 -- ==== Offsets in a text, and the characters at them.

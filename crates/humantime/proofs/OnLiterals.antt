@@ -1,9 +1,15 @@
 -- The definitions that a proof unfolds to compute the result of parsing a literal, or the printed text of a value.
-use Rattle.humantime.proofs.Prelude.{⊤}
+use Rattle.humantime.specs.Calendar.{days_of_years, days_of_months}
+use Rattle.humantime.specs.Characters.{whitespace_chars, is_whitespace, is_digit, is_letter, is_point, without_trailing_zeros}
+use Rattle.humantime.specs.DurationResults.{left_at, duration_text, duration_answer, canonical_answer}
+use Rattle.humantime.specs.Durations.{scale_of_word}
+use Rattle.humantime.specs.TimestampResults.{date_of, moment_text, weak_answer, strict_answer}
+use Rattle.humantime.specs.Timestamps.{fraction_nanos, zone_of, number_between, has_t_and_zone, has_separator, has_punctuation, has_two, has_digits, is_valid_date_time, has_point}
+use Rattle.humantime.specs.Walks.{walk, items, add_all, add_span, sum_spans, fault_at}
+use Rattle.std.specs.Prelude.{⊤}
 use Rattle.std.specs.Fmt.{digits}
 use Rattle.std.specs.Str.{chars, is_utf8}
 use lib.Utf8.{encode}
-use Rattle.humantime.proofs.Definitions.{whitespace_chars, is_whitespace, is_digit, is_letter, is_point, without_trailing_zeros, scale_of_word, walk, items, add_all, add_span, sum_spans, fault_at, left_at, duration_text, duration_answer, canonical_answer, days_of_years, days_of_months, date_of, moment_text, weak_answer, strict_answer, fraction_nanos, zone_of, number_between, has_t_and_zone, has_separator, has_punctuation, has_two, has_digits, is_valid_date_time, has_point}
 
 -- The results of parsing durations, and their printed texts.
 unfoldable pub humantime_on_literals : ⊤

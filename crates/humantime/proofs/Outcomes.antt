@@ -1,7 +1,17 @@
 -- A text of a duration has exactly one value or one error, which the reference computes.
-use Rattle.humantime.proofs.Prelude.{common_steps, ◌≡◌, ◌≢◌, ◌⊎◌, ◌↔◌, ℕ, List, [], ◌∷◌, ◌++◌, Option, Some, None, Result, Ok, Err, refl, sym, ◌∙◌, inl, inr, arith, append_assoc, sum_by, IsPermutation, IfErr, chars, option_map, unwrap_or, bytes_eq, AllByRecursion, cases_Bool, bytes_eq-Decides}
+use Rattle.humantime.specs.Characters.{bare_zero}
+use Rattle.humantime.specs.DurationErrors.{span_of, Fault, NumberOverflow, BreaksLimit, HasFault, result_view, PointsInto}
+use Rattle.humantime.specs.DurationResults.{IsDurationAnswer, duration_answer}
+use Rattle.humantime.specs.Durations.{SpelledSpan, Reads, value, Formed, WithinLimits, Accepted, BareZero, SumOf, total, additions_of}
+use Rattle.humantime.specs.Items.{Items, items_of}
+use Rattle.humantime.specs.Laws.{ExactlyOne, IsOutcome, IsZeroOrSpans}
+use Rattle.humantime.specs.Walks.{items, sum_spans}
+use Rattle.std.proofs.Common.{◌≡◌, ◌≢◌, ◌⊎◌, ◌↔◌, ℕ, List, [], ◌∷◌, ◌++◌, Option, Some, None, Result, Ok, Err, refl, sym, ◌∙◌, inl, inr, arith, append_assoc, sum_by, IsPermutation, IfErr, chars, option_map, unwrap_or, bytes_eq}
+use Rattle.std.proofs.lemmas.Bool.{cases_Bool}
+use Rattle.std.proofs.lemmas.Grind.{common_steps}
+use Rattle.std.proofs.lemmas.Slice.Eq.{bytes_eq-Decides}
+use Rattle.std.specs.List.{AllByRecursion}
 use Rattle.std.proofs.lemmas.List.Sorted.{sum_by-IsPermutation}
-use Rattle.humantime.proofs.Definitions.{bare_zero, SpelledSpan, Reads, value, Formed, WithinLimits, Accepted, BareZero, SumOf, total, additions_of, span_of, Fault, NumberOverflow, BreaksLimit, HasFault, result_view, PointsInto, Items, items_of, ExactlyOne, IsOutcome, IsZeroOrSpans, items, sum_spans, IsDurationAnswer, duration_answer}
 use Rattle.humantime.specs.declared.duration.error.DurationError.{DurationError}
 use Rattle.humantime.proofs.Sums.{spans_summed, within_from-front, within_tells, value-cons}
 use Rattle.humantime.proofs.Characters.{digit_is_numeric}

@@ -1,8 +1,25 @@
 -- A moment has one printed text, and texts are ordered like their moments.
-use Rattle.humantime.proofs.Prelude.{arith, ℕ, List, ◌≡◌, zero, suc, true, eqb, ◌+◌, ◌*◌, ◌/◌, ◌%◌, ◌<◌, ◌≤◌, [], ◌∷◌, ◌++◌, take, drop, length, get_or, refl, ap, ◌-◌, ◌^◌, ◌∙◌, sym, ℤ, codes, slice_set, Some, None, ◌==◌, if◌then◌else◌, min, Option, option_map, pos, ◌↔◌, negsuc, nat_abs, IsAscii, IsSome, IfSome, pow-add, Ordering, ints, common_steps, digit_value, slice_cmp, nat_cmp, int_cmp, ordering_then, digits_value_after, nat_tests, digit_value_digit, AllByRecursion, suc-add, pow-suc, one-le-pow, mod-mod_of_dvd, dvd-mul_left, mod-le, mul-le-mul_right, agree_below_at, eqb-true, lt-ltb, same_Some}
+use Rattle.humantime.specs.Calendar.{IsDate, day_of}
+use Rattle.humantime.specs.Laws.{PrintInOrder, ReadsAs}
+use Rattle.humantime.specs.PrivateFunctions.{IsSecondOf}
+use Rattle.humantime.specs.TimestampResults.{last_digits, printed_fields, fields_at, moment_text, printed_text}
+use Rattle.humantime.specs.Timestamps.{MomentToPrint, IsWeakMoment, IsStrictMoment, fraction_nanos, fraction_digits, Letter_T, Letter_Z, Fields, fields_text, fraction_text, moment_of, IsPrintable, IsPrinted, places_of, cut, year_10000}
+use Rattle.humantime.specs.Values.{nano_of}
+use Rattle.std.proofs.Common.{arith, ℕ, List, ◌≡◌, zero, suc, true, eqb, ◌+◌, ◌*◌, ◌/◌, ◌%◌, ◌<◌, ◌≤◌, [], ◌∷◌, ◌++◌, take, drop, length, get_or, refl, ap, ◌-◌, ◌^◌, ◌∙◌, sym, ℤ, codes, slice_set, Some, None, ◌==◌, if◌then◌else◌, min, Option, option_map, pos, ◌↔◌, negsuc, nat_abs, IsAscii, IsSome, IfSome, pow-add, Ordering, nat_cmp, int_cmp, eqb-true, lt-ltb}
+use Rattle.std.proofs.Math.Nat.{suc-add, pow-suc, one-le-pow, mod-mod_of_dvd, dvd-mul_left, mod-le, mul-le-mul_right}
+use Rattle.std.proofs.lemmas.Bool.{agree_below_at}
+use Rattle.std.proofs.lemmas.Bool.Decides.{nat_tests}
+use Rattle.std.proofs.lemmas.Grind.{common_steps}
+use Rattle.std.proofs.lemmas.Int.{ints}
+use Rattle.std.proofs.lemmas.Option.{same_Some}
+use Rattle.std.proofs.lemmas.Str.{digit_value_digit}
+use Rattle.std.specs.Char.{digit_value}
+use Rattle.std.specs.Cmp.Lexicographic.{slice_cmp}
+use Rattle.std.specs.List.{AllByRecursion}
+use Rattle.std.specs.Ordering.{ordering_then}
+use Rattle.std.specs.Str.Parse.{digits_value_after}
 use Rattle.std.proofs.Math.Arith.{mod-mul}
 use Rattle.std.specs.FinMap.{slice_cmp-IsAntisymmetric, nat_cmp-IsAntisymmetric}
-use Rattle.humantime.proofs.Definitions.{MomentToPrint, IsWeakMoment, IsStrictMoment, fraction_nanos, fraction_digits, Letter_T, Letter_Z, Fields, fields_text, fraction_text, moment_of, IsPrintable, IsPrinted, places_of, cut, year_10000, last_digits, printed_fields, fields_at, moment_text, printed_text, IsDate, day_of, nano_of, PrintInOrder, ReadsAs, IsSecondOf}
 use Rattle.humantime.specs.declared.calendar.Date.{Date}
 use Rattle.humantime.proofs.Dates.{day_at_most, before_later, valid_from_test, date_of_is}
 use Rattle.humantime.proofs.TimestampParts.{nanos_bound, digits_from_test, AreDigits, add_digits, nanos_added, digits_from, holds_before_zone}

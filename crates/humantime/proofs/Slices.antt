@@ -1,10 +1,18 @@
 -- What a span borrows from its text.
-use Rattle.humantime.proofs.Prelude.{common_steps, append_assoc, ◌≡◌, ℕ, Bool, true, false, ◌&&◌, cond, eqb, List, [], ◌∷◌, ◌++◌, length, Some, None, refl, sym, ap, ◌∙◌, arith, IsUtf8, chars, Option, ap₂, ◌≢◌, subst, ◌<◌, nat_tests, encodes-chars, encodes_same, encodes-append, length-le-encodes, append_cancel_left}
+use Rattle.humantime.specs.Characters.{begins, ends, drop_while, take_while, is_whitespace, is_digit, is_letter, is_numeric, digits, is_point, byte_length, offset_of}
+use Rattle.humantime.specs.DurationErrors.{span_of, after_number, after_fraction, fraction_of, word_of, after_word, BeginsSpan}
+use Rattle.humantime.specs.DurationResults.{trimmed, fraction_slice, view_at, spelled, number_slice}
+use Rattle.humantime.specs.Durations.{HasOnly, SpelledSpan, SpellsFraction}
+use Rattle.humantime.specs.Items.{IsDigitSlice, SpanView, IsFractionView, IsSpanView, AreSpanViews}
+use Rattle.std.proofs.Common.{append_assoc, ◌≡◌, ℕ, Bool, true, false, ◌&&◌, cond, eqb, List, [], ◌∷◌, ◌++◌, length, Some, None, refl, sym, ap, ◌∙◌, arith, IsUtf8, chars, Option, ap₂, ◌≢◌, subst, ◌<◌}
+use Rattle.std.proofs.lemmas.Bool.Decides.{nat_tests}
+use Rattle.std.proofs.lemmas.Grind.{common_steps}
+use Rattle.std.proofs.lemmas.List.{append_cancel_left}
+use Rattle.std.proofs.lemmas.Str.{encodes-chars, encodes_same, encodes-append, length-le-encodes}
 use Rattle.std.specs.Char.{is_whitespace as std_is_whitespace}
 use Rattle.std.specs.Str.{trim_start, trim_end, skip_leading_whitespace, drop_trailing_whitespace}
 use Rattle.std.proofs.Math.Dec.{eqb-suc-zero}
 use Rattle.std.proofs.Math.Bool.{and-false}
-use Rattle.humantime.proofs.Definitions.{begins, ends, drop_while, take_while, is_whitespace, is_digit, is_letter, is_numeric, digits, is_point, byte_length, offset_of, HasOnly, SpelledSpan, SpellsFraction, span_of, after_number, after_fraction, fraction_of, word_of, after_word, BeginsSpan, trimmed, fraction_slice, view_at, spelled, number_slice, IsDigitSlice, SpanView, IsFractionView, IsSpanView, AreSpanViews}
 use Rattle.humantime.proofs.Characters.{whitespace_is, letter_not_whitespace, take_while-append, digit_not_whitespace, drop_while-append, digit_is_numeric, begins-append, ends-append, take_while-drop_while, take_while-only, begins_take_while}
 use Rattle.humantime.proofs.Spellings.{read_spelled, next_of, spells-append, written_here}
 

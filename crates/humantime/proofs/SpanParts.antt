@@ -1,6 +1,15 @@
 -- The parts of a span as they are read: number, fraction, word and end.
-use Rattle.humantime.proofs.Prelude.{common_steps, ◌≡◌, ◌≤◌, ◌<◌, ◌+◌, ◌-◌, ◌*◌, ℕ, List, [], ◌∷◌, ◌++◌, arith, true, false, chars, drop, get_or, length, IsUtf8, IsCharBoundary, ◌≢◌, ◌^◌, sym, ap, ◌∙◌, length-append, ne_eqb, pow-add, digit_value, is_ascii_digit, digits_value_after, digit_value_digit, encodes-chars, IsCharBoundary-start, nat_tests, one-le-pow, pow-le-pow_right, mul-le-mul_right}
-use Rattle.humantime.proofs.Definitions.{begins, decimal_value, is_digit, is_numeric, number_of, after_number, IsCharStartIn, whitespace_len, HasDigits}
+use Rattle.humantime.specs.Characters.{begins, decimal_value, is_digit, is_numeric}
+use Rattle.humantime.specs.DurationErrors.{number_of, after_number, IsCharStartIn}
+use Rattle.humantime.specs.PrivateFunctions.{whitespace_len}
+use Rattle.humantime.specs.PrivateTypes.{HasDigits}
+use Rattle.std.proofs.Common.{◌≡◌, ◌≤◌, ◌<◌, ◌+◌, ◌-◌, ◌*◌, ℕ, List, [], ◌∷◌, ◌++◌, arith, true, false, chars, drop, get_or, length, IsUtf8, IsCharBoundary, ◌≢◌, ◌^◌, sym, ap, ◌∙◌, length-append, ne_eqb, pow-add}
+use Rattle.std.proofs.Math.Nat.{one-le-pow, pow-le-pow_right, mul-le-mul_right}
+use Rattle.std.proofs.lemmas.Bool.Decides.{nat_tests}
+use Rattle.std.proofs.lemmas.Grind.{common_steps}
+use Rattle.std.proofs.lemmas.Str.{digit_value_digit, encodes-chars, IsCharBoundary-start}
+use Rattle.std.specs.Char.{digit_value, is_ascii_digit}
+use Rattle.std.specs.Str.Parse.{digits_value_after}
 use Rattle.humantime.specs.declared.duration.digits.Fraction.{Fraction}
 use Rattle.humantime.proofs.Offsets.{digit_at, whitespace_over, no_whitespace, ascii_at, no_bytes, tail_boundary, tail_place, tail_tail}
 use Rattle.humantime.proofs.Characters.{digit_is, digit_is_numeric, whitespace_is_numeric, digit_not_whitespace, digits_value-append, significant_shorter, significant_last, significant_zero, value_shifted, significant_long}

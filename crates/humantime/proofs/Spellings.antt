@@ -1,6 +1,12 @@
 -- The span at the start of a text, how it is spelled, and the error that stops it.
-use Rattle.humantime.proofs.Prelude.{◌==◌, arith, inl, ◌≡◌, ℕ, List, [], ◌∷◌, ◌++◌, sym, append_assoc, append-nil, subst, ◌≢◌, ◌⊎◌, ◌<◌, true, false, length, Option, Some, None, if◌then◌else◌, option_map, unwrap_or, IsSome, Decides, AllByRecursion, common_steps, nat_tests}
-use Rattle.humantime.proofs.Definitions.{is_whitespace, is_digit, is_letter, is_numeric, is_point, take_while, drop_while, begins, ends, is_some_and, SpelledSpan, HasOnly, Spells, SpellsEach, IsLetters, SpellsFraction, scale_of_word, after_fraction, after_number, after_point, after_word, fraction_of, may_follow_span, number_of, span_of, Fault, BeginsSpan, IsStoppedWith, word_of, fault_at, may_be_word}
+use Rattle.humantime.specs.Characters.{is_whitespace, is_digit, is_letter, is_numeric, is_point, take_while, drop_while, begins, ends}
+use Rattle.humantime.specs.DurationErrors.{after_fraction, after_number, after_point, after_word, fraction_of, may_follow_span, number_of, span_of, Fault, BeginsSpan, IsStoppedWith, word_of}
+use Rattle.humantime.specs.Durations.{is_some_and, SpelledSpan, HasOnly, Spells, SpellsEach, IsLetters, SpellsFraction, scale_of_word}
+use Rattle.humantime.specs.Walks.{fault_at, may_be_word}
+use Rattle.std.proofs.Common.{◌==◌, arith, inl, ◌≡◌, ℕ, List, [], ◌∷◌, ◌++◌, sym, append_assoc, append-nil, subst, ◌≢◌, ◌⊎◌, ◌<◌, true, false, length, Option, Some, None, if◌then◌else◌, option_map, unwrap_or, IsSome, Decides}
+use Rattle.std.proofs.lemmas.Bool.Decides.{nat_tests}
+use Rattle.std.proofs.lemmas.Grind.{common_steps}
+use Rattle.std.specs.List.{AllByRecursion}
 use Rattle.humantime.proofs.Characters.{letter_not_whitespace, point_not_numeric, take_while-append, drop_while-append, drop_while_shorter, begins-append, ends_only, ends_other, ends-append, take_while-drop_while, digit_is_numeric, take_while-only, begins_take_while, begins-drop_while}
 
 -- ==== A spelling as a text of its own, and followed by more text.

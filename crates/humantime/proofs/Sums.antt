@@ -1,6 +1,17 @@
 -- The sum of spans, and whether it is within the limits.
-use Rattle.humantime.proofs.Prelude.{nat_tests, common_steps, ◌≡◌, ℕ, ◌+◌, ◌/◌, ◌≤◌, true, List, [], ◌∷◌, ◌++◌, Some, None, refl, arith, append_assoc, ◌⊎◌, Option, Result, Ok, Err, map, Bool, ◌&&◌, if◌then◌else◌, option_map, unwrap_or, Decides, ⊤, AllByRecursion, list_all, list_all-append, sum_by_push, sum_by-append}
-use Rattle.humantime.proofs.Definitions.{nanos_per_second, Fault, NumberOverflow, u64_max, Quantity, Nanos, Seconds, quantity_nanos, total, has_room, AllHaveRoom, additions_of, additions, value, Formed, fits, WithinLimits, SpelledSpan, add_all, add_span, sum_spans, items_of}
+use Rattle.humantime.specs.Characters.{u64_max}
+use Rattle.humantime.specs.DurationErrors.{Fault, NumberOverflow}
+use Rattle.humantime.specs.Durations.{Quantity, Nanos, Seconds, quantity_nanos, total, has_room, AllHaveRoom, additions_of, additions, value, Formed, fits, WithinLimits, SpelledSpan}
+use Rattle.humantime.specs.Items.{items_of}
+use Rattle.humantime.specs.Values.{nanos_per_second}
+use Rattle.humantime.specs.Walks.{add_all, add_span, sum_spans}
+use Rattle.std.proofs.Common.{◌≡◌, ℕ, ◌+◌, ◌/◌, ◌≤◌, true, List, [], ◌∷◌, ◌++◌, Some, None, refl, arith, append_assoc, ◌⊎◌, Option, Result, Ok, Err, map, Bool, ◌&&◌, if◌then◌else◌, option_map, unwrap_or, Decides}
+use Rattle.std.proofs.lemmas.Bool.Decides.{nat_tests}
+use Rattle.std.proofs.lemmas.Grind.{common_steps}
+use Rattle.std.proofs.lemmas.List.Folds.{list_all-append}
+use Rattle.std.proofs.lemmas.List.Sums.{sum_by_push, sum_by-append}
+use Rattle.std.specs.List.{AllByRecursion, list_all}
+use Rattle.std.specs.Prelude.{⊤}
 use Rattle.humantime.proofs.Characters.{all_pass}
 
 -- ==== Additions that do not overflow, one after the other.

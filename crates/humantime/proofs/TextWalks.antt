@@ -1,6 +1,14 @@
 -- The walk over a text finds the one list of spans that the text consists of, and its first error.
-use Rattle.humantime.proofs.Prelude.{length-map, ◌==◌, ◌≡◌, ◌≢◌, ℕ, zero, suc, ◌<◌, false, List, [], ◌∷◌, length, Some, None, refl, arith, ◌⊎◌, true, ◌++◌, map, Option, inl, append-nil, sym, ap, length-append, inr, append_assoc, nat_tests, common_steps, AllByRecursion}
-use Rattle.humantime.proofs.Definitions.{Fault, OnlyWhitespace, Split, may_follow_span, span_of, NumberOverflow, BeginsSpan, HasFault, Walk, walk, walk_from, fault_at, stop_at, items, walk_of, begins, ends, drop_while, take_while, is_whitespace, bare_zero, is_digit, SpelledSpan, SpellsEach, SpellsAll, Reads, Spells, Formed, WithinLimits, Items, EndsOrStops}
+use Rattle.humantime.specs.Characters.{begins, ends, drop_while, take_while, is_whitespace, bare_zero, is_digit}
+use Rattle.humantime.specs.DurationErrors.{Fault, OnlyWhitespace, Split, may_follow_span, span_of, NumberOverflow, BeginsSpan, HasFault}
+use Rattle.humantime.specs.Durations.{SpelledSpan, SpellsEach, SpellsAll, Reads, Spells, Formed, WithinLimits}
+use Rattle.humantime.specs.Items.{Items, EndsOrStops}
+use Rattle.humantime.specs.Walks.{Walk, walk, walk_from, fault_at, stop_at, items, walk_of}
+use Rattle.std.proofs.Common.{◌==◌, ◌≡◌, ◌≢◌, ℕ, zero, suc, ◌<◌, false, List, [], ◌∷◌, length, Some, None, refl, arith, ◌⊎◌, true, ◌++◌, map, Option, inl, append-nil, sym, ap, length-append, inr, append_assoc}
+use Rattle.std.proofs.lemmas.Bool.Decides.{nat_tests}
+use Rattle.std.proofs.lemmas.Grind.{common_steps}
+use Rattle.std.proofs.lemmas.List.{length-map}
+use Rattle.std.specs.List.{AllByRecursion}
 use Rattle.humantime.proofs.Spellings.{next_of, next_smaller, IsSpelledAt, spelled_here, apart, fine_goes, stops_at, each-append, spells_each-append, is_fine, wrong_stops, written_here}
 use Rattle.humantime.proofs.Characters.{digit_is_numeric, digit_not_whitespace, drop_while-append, begins-append, ends-append, take_while-drop_while, take_while-only, begins-drop_while}
 use Rattle.humantime.proofs.Sums.{within_tells, within_or_beyond}

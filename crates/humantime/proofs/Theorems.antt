@@ -1,6 +1,21 @@
 -- The theorems that callers cite: the laws over plain variables, each under the name of its function in `laws`, and some others.
-use Rattle.humantime.proofs.Prelude.{nat_tests, rules, ◌≡◌, ℕ, ◌<◌, List, Result, chars, refl, sym, ◌∙◌, arith, true, [], ◌∷◌, ◌+◌, ◌++◌, inl, inr, ◌≤◌, ◌-◌, ◌/◌, ◌^◌, ◌↔◌, Ok, IsTrue, ℤ, pos, negsuc, ◌≤ℤ◌, ◌<ℤ◌, IfSome, nat_cmp, int_cmp, is_le, is_lt, bytes_eq-Decides, common_steps, AllByRecursion, slice_cmp, ints, mul-mod_right, div-add-mod}
-use Rattle.humantime.proofs.Definitions.{ExactlyOne, HasOneOutcome, ItemsDecide, ItemsTile, PrintsAndReads, TextsTellApart, IsBounded, IsCanonicalAgain, OlderFormed, older_additions, AcceptedWithZeros, OlderZero, OlderSum, KeepsValueWithZeros, AreReordered, KeepsValueWithoutWhitespace, AddWhenJoined, KeepValueReordered, HasOneTimestamp, IsWeakAndMarked, MomentPrintsAndReads, AreItems, SpanView, IsCanonicalText, duration_end, Fault, NumberOverflow, result_view, fault_of, IsWeak, IsStrict, weak_checks, strict_checks, MomentToPrint, cut, IsPrinted, IsPrintedWith, IsPrintable, printed_text, weak_answer, strict_answer, item_views, duration_text, duration_answer, canonical_answer, SpelledSpan, additions, Formed, fits, Accepted, BareZero, SumOf}
+use Rattle.humantime.specs.DurationErrors.{Fault, NumberOverflow, result_view, fault_of}
+use Rattle.humantime.specs.DurationResults.{item_views, duration_text, duration_answer, canonical_answer}
+use Rattle.humantime.specs.Durations.{SpelledSpan, additions, Formed, fits, Accepted, BareZero, SumOf}
+use Rattle.humantime.specs.Items.{AreItems, SpanView}
+use Rattle.humantime.specs.Laws.{ExactlyOne, HasOneOutcome, ItemsDecide, ItemsTile, PrintsAndReads, TextsTellApart, IsBounded, IsCanonicalAgain, OlderFormed, older_additions, AcceptedWithZeros, OlderZero, OlderSum, KeepsValueWithZeros, AreReordered, KeepsValueWithoutWhitespace, AddWhenJoined, KeepValueReordered, HasOneTimestamp, IsWeakAndMarked, MomentPrintsAndReads}
+use Rattle.humantime.specs.PrintedDurations.{IsCanonicalText}
+use Rattle.humantime.specs.TimestampResults.{printed_text, weak_answer, strict_answer}
+use Rattle.humantime.specs.Timestamps.{IsWeak, IsStrict, weak_checks, strict_checks, MomentToPrint, cut, IsPrinted, IsPrintedWith, IsPrintable}
+use Rattle.humantime.specs.Values.{duration_end}
+use Rattle.std.proofs.Common.{rules, ◌≡◌, ℕ, ◌<◌, List, Result, chars, refl, sym, ◌∙◌, arith, true, [], ◌∷◌, ◌+◌, ◌++◌, inl, inr, ◌≤◌, ◌-◌, ◌/◌, ◌^◌, ◌↔◌, Ok, IsTrue, ℤ, pos, negsuc, ◌≤ℤ◌, ◌<ℤ◌, IfSome, nat_cmp, int_cmp, is_le, is_lt}
+use Rattle.std.proofs.Math.Nat.{mul-mod_right, div-add-mod}
+use Rattle.std.proofs.lemmas.Bool.Decides.{nat_tests}
+use Rattle.std.proofs.lemmas.Grind.{common_steps}
+use Rattle.std.proofs.lemmas.Int.{ints}
+use Rattle.std.proofs.lemmas.Slice.Eq.{bytes_eq-Decides}
+use Rattle.std.specs.Cmp.Lexicographic.{slice_cmp}
+use Rattle.std.specs.List.{AllByRecursion}
 use Rattle.humantime.specs.declared.duration.error.DurationError.{DurationError}
 use Rattle.humantime.proofs.Items.{are_items, first_error_answers, front_tiled, one_span_view, text_tiled}
 use Rattle.humantime.proofs.Outcomes.{accepted_from_outcome, answer_accepts, answer_faults, exactly_one_outcome, items_decide_fault, items_decide_overflow, items_decide_value, one_list_of_items, outcome_accepted, outcome_fault, reordered_value, zero_or_spans}

@@ -1,6 +1,12 @@
 -- A text of a timestamp has exactly one moment or one error.
-use Rattle.humantime.proofs.Prelude.{common_steps, ◌≡◌, ℕ, ◌+◌, ◌/◌, ◌%◌, ◌≤◌, List, length, drop, refl, arith, ◌++◌, rules, ◌≢◌, ap, ◌∙◌, true, slice_index, Option, None, ◌↔◌, ℤ, Bool, Result, le-leb, nat_tests, ⊤, AllByRecursion}
-use Rattle.humantime.proofs.Definitions.{Fields, fraction_text, fraction_digits, fields_text, IsWeak, zone_text, NoZone, date_time_text, IsStrict, IsWeakMoment, IsStrictMoment, has_two, has_digits, number_between, has_separator, has_punctuation, is_valid_date_time, has_point, weak_checks, first_failed, zone_of, fraction_part, ends_in_zone, has_t_and_zone, strict_checks, IsMarked, HasOneTimestamp, moment_at, weak_answer, strict_answer, moment_or_error, IsWeakAnswer, IsStrictAnswer}
+use Rattle.humantime.specs.Laws.{IsMarked, HasOneTimestamp}
+use Rattle.humantime.specs.TimestampResults.{moment_at, weak_answer, strict_answer, moment_or_error, IsWeakAnswer, IsStrictAnswer}
+use Rattle.humantime.specs.Timestamps.{Fields, fraction_text, fraction_digits, fields_text, IsWeak, zone_text, NoZone, date_time_text, IsStrict, IsWeakMoment, IsStrictMoment, has_two, has_digits, number_between, has_separator, has_punctuation, is_valid_date_time, has_point, weak_checks, first_failed, zone_of, fraction_part, ends_in_zone, has_t_and_zone, strict_checks}
+use Rattle.std.proofs.Common.{◌≡◌, ℕ, ◌+◌, ◌/◌, ◌%◌, ◌≤◌, List, length, drop, refl, arith, ◌++◌, rules, ◌≢◌, ap, ◌∙◌, true, slice_index, Option, None, ◌↔◌, ℤ, Bool, Result, le-leb}
+use Rattle.std.proofs.lemmas.Bool.Decides.{nat_tests}
+use Rattle.std.proofs.lemmas.Grind.{common_steps}
+use Rattle.std.specs.List.{AllByRecursion}
+use Rattle.std.specs.Prelude.{⊤}
 use Rattle.humantime.specs.declared.date.error.TimestampError.{TimestampError}
 use Rattle.humantime.proofs.Dates.{valid_from_test}
 use Rattle.humantime.proofs.TimestampParts.{digits_hold, IsPlain, plain_bytes, zone_found, number_of_two, number_of_four, digits_from_test, zone_shown, has_two_from_test, holds_before_zone}

@@ -1,7 +1,18 @@
 -- The parts of a timestamp: numbers, fraction, punctuation and zone.
-use Rattle.humantime.proofs.Prelude.{◌≡◌, ℕ, suc, ◌+◌, ◌*◌, ◌<◌, List, [], ◌∷◌, length, refl, add-one, arith, rules, zero, ◌/◌, ◌^◌, ◌++◌, replicate, get_or, take, drop, ◌≢◌, sym, append_assoc, drop-cons, drop_of_length-le, IsInRange, nat_tests, digit_value_digit, common_steps, is_ascii_digit, digit_value, all_ascii_digits, byte, digits_value_after, ⊤, ◌-◌, ◌≤◌, true, false, slice_index, slice_range, min, if◌then◌else◌, Ok, Err, ◌==◌, ◌&&◌, codes, nat_eq, AllByRecursion, ends_with, pow-suc, mul-le-mul_left, div-div-eq-div-mul, take-append-drop, drop_more}
-use Rattle.humantime.proofs.Definitions.{has_t_and_zone, has_point, has_two, number_between, zone_of, before_zone, fraction_nanos, Fields, fraction_text, date_time_text, IsWeak, Zone, zone_text, digits_answer}
-use Rattle.humantime.specs.Timestamps.{ends_in, Letter_Z, ZeroOffset}
+use Rattle.humantime.specs.PrivateFunctions.{digits_answer}
+use Rattle.std.proofs.Common.{◌≡◌, ℕ, suc, ◌+◌, ◌*◌, ◌<◌, List, [], ◌∷◌, length, refl, add-one, arith, rules, zero, ◌/◌, ◌^◌, ◌++◌, replicate, get_or, take, drop, ◌≢◌, sym, append_assoc, drop-cons, drop_of_length-le, ◌-◌, ◌≤◌, true, false, slice_index, slice_range, min, if◌then◌else◌, Ok, Err, ◌==◌, ◌&&◌, codes, nat_eq, take-append-drop}
+use Rattle.std.proofs.Math.Nat.{pow-suc, mul-le-mul_left, div-div-eq-div-mul}
+use Rattle.std.proofs.lemmas.Bool.Decides.{nat_tests}
+use Rattle.std.proofs.lemmas.Grind.{common_steps}
+use Rattle.std.proofs.lemmas.List.{drop_more}
+use Rattle.std.proofs.lemmas.Str.{digit_value_digit}
+use Rattle.std.specs.Char.{is_ascii_digit, digit_value}
+use Rattle.std.specs.Int.{IsInRange}
+use Rattle.std.specs.List.{AllByRecursion, ends_with}
+use Rattle.std.specs.Prelude.{⊤}
+use Rattle.std.specs.Str.{all_ascii_digits, byte}
+use Rattle.std.specs.Str.Parse.{digits_value_after}
+use Rattle.humantime.specs.Timestamps.{ends_in, Letter_Z, ZeroOffset, has_t_and_zone, has_point, has_two, number_between, zone_of, before_zone, fraction_nanos, Fields, fraction_text, date_time_text, IsWeak, Zone, zone_text}
 use Rattle.humantime.specs.declared.date.error.TimestampError.TheVariants.{InvalidDigit}
 use Rattle.humantime.proofs.Dates.{valid_from_test}
 

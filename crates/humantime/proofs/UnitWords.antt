@@ -1,7 +1,17 @@
 -- The unit of a word by its bytes.
-use Rattle.humantime.proofs.Prelude.{nat_tests, ltb, ◌+◌, ◌≡◌, ◌≤◌, ◌∙◌, ap, refl, ℕ, suc, Bool, true, ◌&&◌, List, [], ◌∷◌, ◌++◌, length, get_or, Option, Some, None, chars, arith, ◌==◌, bytes_eq, if◌then◌else◌, IsUtf8, ⊤, list_all, and_parts, lookup, HasBytesAt, bytes_eq-Decides, text_from_reads, chars-encodes, encodes-chars}
+use Rattle.humantime.specs.Characters.{micro_sign, greek_mu}
+use Rattle.humantime.specs.Durations.{Scale, words, scale_of_word}
+use Rattle.humantime.specs.PrivateFunctions.{words_below, words_from, scale_from}
+use Rattle.humantime.specs.Values.{seconds_per_day}
+use Rattle.std.proofs.Common.{ltb, ◌+◌, ◌≡◌, ◌≤◌, ◌∙◌, ap, refl, ℕ, suc, Bool, true, ◌&&◌, List, [], ◌∷◌, ◌++◌, length, get_or, Option, Some, None, chars, arith, ◌==◌, bytes_eq, if◌then◌else◌, IsUtf8}
+use Rattle.std.proofs.lemmas.Bool.{and_parts}
+use Rattle.std.proofs.lemmas.Bool.Decides.{nat_tests}
+use Rattle.std.proofs.lemmas.Slice.Eq.{HasBytesAt, bytes_eq-Decides, text_from_reads}
+use Rattle.std.proofs.lemmas.Str.{chars-encodes, encodes-chars}
+use Rattle.std.specs.List.{list_all}
+use Rattle.std.specs.Map.{lookup}
+use Rattle.std.specs.Prelude.{⊤}
 use Rattle.std.proofs.Math.Utf8.{encode, encodes, scalars}
-use Rattle.humantime.proofs.Definitions.{micro_sign, greek_mu, seconds_per_day, Scale, words, scale_of_word, words_below, words_from, scale_from}
 
 -- The UTF-8 bytes of a word of ASCII letters, micro signs and Greek mus.
 abbrev pub bytes_of : List ℕ → List ℕ

@@ -1,8 +1,12 @@
 -- Lemmas about the output for the results of the library, the uniqueness of the answer, and the end of the program.
-use Rattle.humantime.proofs.Prelude.{◌≡◌, ◌≢◌, ◌↔◌, ℕ, List, [], ◌∷◌, length, ap, sym, ◌∙◌, refl, arith, ℤ, None, Some, Result, Ok, Err, chars, codes, IsSome, IfOk, unwrap_or, if◌then◌else◌, ◌==◌, inl, inr, Option, result_and, result_map_both, result_unwrap_or}
+use Rattle.humantime.specs.DurationErrors.{fault_of, fault_message}
+use Rattle.humantime.specs.DurationResults.{IsDurationAnswer, duration_text, canonical_answer}
+use Rattle.humantime.specs.TimestampResults.{strict_answer, weak_answer, shortest_text}
+use Rattle.humantime.specs.Timestamps.{IsPrintable, timestamp_message, places_of}
+use Rattle.std.proofs.Common.{◌≡◌, ◌≢◌, ◌↔◌, ℕ, List, [], ◌∷◌, length, ap, sym, ◌∙◌, refl, arith, ℤ, None, Some, Result, Ok, Err, chars, codes, IsSome, IfOk, unwrap_or, if◌then◌else◌, ◌==◌, inl, inr, Option}
+use Rattle.std.specs.Result.{result_and, result_map_both, result_unwrap_or}
 use Rattle.std.proofs.KnownBytes.{Appends-nil, Appends-kept, Keeps-refl, Keeps-trans}
 use Rattle.std.specs.Io.KnownBytes.{Keeps}
-use Rattle.humantime.proofs.Definitions.{IsDurationAnswer, IsPrintable, duration_text, fault_of, fault_message, timestamp_message, canonical_answer, strict_answer, weak_answer, places_of, shortest_text}
 use Rattle.humantime.specs.declared.date.error.TimestampError.{TimestampError}
 use Rattle.humantime.specs.declared.duration.error.DurationError.{DurationError}
 use Rattle.humantime.proofs.Theorems.{canonical_again, printed_is_canon, printed_some, one_stamp_outcome, printed_moment_reads, places_of_bound, strict_printable, weak_printable}

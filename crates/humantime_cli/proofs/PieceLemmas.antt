@@ -1,5 +1,11 @@
 -- Lemmas about a piece of a text, and about a line that is written piece by piece.
-use Rattle.humantime.proofs.Prelude.{arith, take_all, take-append-drop, append_assoc, append-nil, ◌≡◌, ℕ, zero, suc, List, [], ◌∷◌, ◌++◌, ◌≤◌, ◌<◌, ◌+◌, ◌-◌, refl, sym, ap, ◌∙◌, take, drop, min, subst, length, length-append, length-take, length-drop, take-put_mid, common_steps, take_min, drop_min, take-take, WritesText, FoldsTo, concat, Option, None, Some, IsSome, true, false, ◌||◌, ◌&&◌, ◌==◌, not, Bool, nat_lt, unwrap_or, nat_tests}
+use Rattle.std.proofs.Common.{arith, take_all, take-append-drop, append_assoc, append-nil, ◌≡◌, ℕ, zero, suc, List, [], ◌∷◌, ◌++◌, ◌≤◌, ◌<◌, ◌+◌, ◌-◌, refl, sym, ap, ◌∙◌, take, drop, min, subst, length, length-append, length-take, length-drop, take-take, Option, None, Some, IsSome, true, false, ◌||◌, ◌&&◌, ◌==◌, not, Bool, nat_lt, unwrap_or}
+use Rattle.std.proofs.lemmas.Bool.Decides.{nat_tests}
+use Rattle.std.proofs.lemmas.Grind.{common_steps}
+use Rattle.std.proofs.lemmas.List.{take_min, drop_min}
+use Rattle.std.proofs.lemmas.Slice.{take-put_mid}
+use Rattle.std.specs.Fmt.{WritesText}
+use Rattle.std.specs.List.{FoldsTo, concat}
 use Rattle.std.proofs.KnownBytes.{Appends-trans}
 use Rattle.std.proofs.Math.Seq.{take-add}
 use Rattle.std.specs.Io.KnownBytes.{Appends}

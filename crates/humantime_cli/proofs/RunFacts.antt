@@ -1,7 +1,11 @@
 -- What a caller of `run` can conclude for known arguments, if the bytes of both writers are known. The callers in `src/command/callers.rt` cite
 -- these facts. Each of them fails to prove if a definition or a clause of `run` is weakened.
 use Rattle.std.proofs.Common.{arith, ◌≡◌, ◌≢◌, ◌<◌, ℕ, ◌*◌, List, [], ◌∷◌, ◌++◌, length, take, subst, inl, inr, refl, ◌∙◌, append-nil, ℤ, pos, Some, None, Result, Ok, Err, chars, codes}
-use Rattle.humantime.proofs.Definitions.{Fault, HasFault, InvalidCharacter, IsCanonicalOf, IsPrinted, IsStrictMoment, IsWeakMoment, fault_message, first_failed, moment_text, nanos_per_second, places_of, strict_checks, timestamp_message, weak_checks}
+use Rattle.humantime.specs.DurationErrors.{Fault, HasFault, InvalidCharacter, fault_message}
+use Rattle.humantime.specs.PrintedDurations.{IsCanonicalOf}
+use Rattle.humantime.specs.TimestampResults.{moment_text}
+use Rattle.humantime.specs.Timestamps.{IsPrinted, IsStrictMoment, IsWeakMoment, first_failed, places_of, strict_checks, timestamp_message, weak_checks}
+use Rattle.humantime.specs.Values.{nanos_per_second}
 use Rattle.humantime.specs.declared.date.error.TimestampError.{TimestampError}
 use Rattle.humantime.proofs.OnLiterals.{humantime_on_literals, timestamps_on_literals}
 use Rattle.humantime.proofs.Theorems.{canonical_again, one_stamp_outcome, printed_moment_reads, places_of_bound}

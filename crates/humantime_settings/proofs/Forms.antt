@@ -1,5 +1,8 @@
 -- Lemmas on lists and maps that are written and read in turn.
-use Rattle.humantime.proofs.Prelude.{◌≡◌, ℕ, suc, List, [], ◌∷◌, ◌++◌, Some, String, length, refl, sym, subst, ap, string_cmp, eq_by_cmp_equiv, AllZip, eq_by_cmp}
+use Rattle.std.proofs.Common.{◌≡◌, ℕ, suc, List, [], ◌∷◌, ◌++◌, Some, String, length, refl, sym, subst, ap, string_cmp}
+use Rattle.std.proofs.lemmas.Cmp.{eq_by_cmp_equiv}
+use Rattle.std.specs.List.{AllZip}
+use Rattle.std.specs.Ordering.{eq_by_cmp}
 use Rattle.std.proofs.lemmas.Map.Keys.{IsDistinct-from_sorted}
 use Rattle.std.proofs.lemmas.Map.Made.{update_all_none}
 use Rattle.std.specs.BTreeMap.{BTreeMap, IsFromIterResult, IsOrdered, keys}

@@ -1,5 +1,15 @@
 -- The bytes of an error: numbers of two digits, what fits the layout, and that their range lies in the text, between characters.
-use Rattle.humantime.proofs.Prelude.{◌≡◌, ℕ, zero, suc, ◌+◌, ◌-◌, ◌*◌, ◌<◌, ◌≤◌, List, ◌∷◌, length, get_or, drop, arith, rules, ⊤, Bool, true, is_ascii_digit, is_in_range, AllByRecursion, prefix_len, zip, IsUtf8, IsCharBoundary, and_parts, nat_tests, common_steps, get_or-drop, get_or_past, length-drop, prefix_len-le-length, prefix_len_is, prefix_len_passes, IsCharBoundary-start, IsCharBoundary-end, IsCharBoundary-after_ascii}
+use Rattle.std.proofs.Common.{◌≡◌, ℕ, zero, suc, ◌+◌, ◌-◌, ◌*◌, ◌<◌, ◌≤◌, List, ◌∷◌, length, get_or, drop, arith, rules, Bool, true, zip, IsUtf8, IsCharBoundary, get_or-drop, length-drop}
+use Rattle.std.proofs.lemmas.Bool.{and_parts}
+use Rattle.std.proofs.lemmas.Bool.Decides.{nat_tests}
+use Rattle.std.proofs.lemmas.Grind.{common_steps}
+use Rattle.std.proofs.lemmas.List.{get_or_past}
+use Rattle.std.proofs.lemmas.List.Sums.{prefix_len-le-length, prefix_len_is, prefix_len_passes}
+use Rattle.std.proofs.lemmas.Str.{IsCharBoundary-start, IsCharBoundary-end, IsCharBoundary-after_ascii}
+use Rattle.std.specs.Char.{is_ascii_digit}
+use Rattle.std.specs.Int.{is_in_range}
+use Rattle.std.specs.List.{AllByRecursion, prefix_len}
+use Rattle.std.specs.Prelude.{⊤}
 use Rattle.std.proofs.lemmas.Slice.Zip.{length-zip}
 use Rattle.humantime.specs.Timestamps.{has_digits, has_two, number_between}
 use Rattle.humantime.proofs.TimestampParts.{has_two_from_test, number_of_two, number_of_four}

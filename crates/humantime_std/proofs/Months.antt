@@ -1,10 +1,12 @@
 -- The first of the month that begins on a date, or after it.
-use Rattle.humantime.proofs.Prelude.{◌≡◌, ◌↔◌, ℕ, ◌+◌, ◌*◌, ◌<◌, ◌≤◌, IsTrue, IsInRange}
-use Rattle.humantime.proofs.Prelude.{arith, nat_tests, cases_lt, inl, inr, refl, sym, subst}
-use Rattle.humantime.proofs.Prelude.{Option, None, Some, IsSome, IfSome}
+use Rattle.humantime.specs.Calendar.{IsDate, day_of, is_valid}
+use Rattle.humantime.specs.Laws.{IsDateOfDay}
+use Rattle.std.proofs.Common.{◌≡◌, ◌↔◌, ℕ, ◌+◌, ◌*◌, ◌<◌, ◌≤◌, IsTrue, arith, inl, inr, refl, sym, subst, Option, None, Some, IsSome, IfSome}
+use Rattle.std.proofs.lemmas.Bool.{cases_lt}
+use Rattle.std.proofs.lemmas.Bool.Decides.{nat_tests}
+use Rattle.std.specs.Int.{IsInRange}
 use Rattle.humantime.proofs.Dates.{before_later, valid_from_test}
 use Rattle.humantime.proofs.Dates.{days_of_years_closed, days_of_months_closed}
-use Rattle.humantime.proofs.Definitions.{IsDate, IsDateOfDay, day_of, is_valid}
 use Rattle.humantime.specs.declared.calendar.Date.{Date}
 use Rattle.humantime_std.specs.Schedule.{BeginsMonth}
 

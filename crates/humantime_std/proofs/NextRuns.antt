@@ -1,6 +1,10 @@
 -- The next run of a job.
-use Rattle.humantime.proofs.Prelude.{◌≡◌, ◌↔◌, ℕ, zero, suc, ◌+◌, ◌*◌, ◌<◌, ◌≤◌, ℤ, pos, ◌+ℤ◌, ◌≤ℤ◌, ◌<ℤ◌, Option, None, Some, IsNone, IfSome, SomeIff, arith, refl, subst, sym, rules, div_ceil, cases_lt, div_ceil_times, ints, mul-le, row_fits}
-use Rattle.humantime.proofs.Prelude.{◌∙◌}
+use Rattle.std.proofs.Common.{◌≡◌, ◌↔◌, ℕ, zero, suc, ◌+◌, ◌*◌, ◌<◌, ◌≤◌, ℤ, pos, ◌+ℤ◌, ◌≤ℤ◌, ◌<ℤ◌, Option, None, Some, IsNone, IfSome, SomeIff, arith, refl, subst, sym, rules, ◌∙◌}
+use Rattle.std.proofs.lemmas.Bool.{cases_lt}
+use Rattle.std.proofs.lemmas.Grind.{div_ceil_times}
+use Rattle.std.proofs.lemmas.Int.{ints}
+use Rattle.std.proofs.lemmas.Nat.{mul-le, row_fits}
+use Rattle.std.specs.Int.{div_ceil}
 use Rattle.humantime.specs.Prelude.{moment_end}
 use Rattle.humantime_std.proofs.Months.{last_month_begins}
 use Rattle.humantime_std.specs.Schedule.{IsDue, IsNextRun}

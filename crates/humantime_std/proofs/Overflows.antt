@@ -1,9 +1,20 @@
 -- The first span up to whose end a text overflows.
-use Rattle.humantime.proofs.Prelude.{◌≡◌, ◌≢◌, ◌==◌, ◌↔◌, ◌⊎◌, ℕ, zero, suc, ◌-◌, ◌≤◌, Bool, true, false, List, [], ◌∷◌, ◌++◌, length, take, drop, Option, Some, None, Result, Err, IsUtf8, IsCharBoundary, SomeIff, chars, option_map, unwrap_or, refl, sym, ap, ◌∙◌, inl, inr, arith, append_assoc, append-nil, length-append, slice_get, encode_utf8_all, IsOk, option_and_then, result_ok, trim_start, common_steps, gets, IsCharBoundary-at_seam, IsCharBoundary-end, chars-encodes, encodes-append, encodes-chars, length-le-encodes, scalars-chars}
+use Rattle.humantime.specs.Characters.{bare_zero, take_while, is_numeric, is_point, is_whitespace, offset_of}
+use Rattle.humantime.specs.DurationErrors.{BeginsSpan, BreaksLimit, Fault, IsRangeIn, IsStoppedWith, NumberOverflow, after_number, after_word, span_of, word_of}
+use Rattle.humantime.specs.DurationResults.{IsDurationAnswer, duration_answer, left_at, view_at}
+use Rattle.humantime.specs.Durations.{Reads, SpelledSpan, WithinLimits}
+use Rattle.humantime.specs.Items.{AreItems, Items}
+use Rattle.humantime.specs.SpanResults.{GivesItem, item_of, items_left, span_view}
+use Rattle.humantime.specs.Walks.{walk, fault_at, stop_at}
+use Rattle.std.proofs.Common.{◌≡◌, ◌≢◌, ◌==◌, ◌↔◌, ◌⊎◌, ℕ, zero, suc, ◌-◌, ◌≤◌, Bool, true, false, List, [], ◌∷◌, ◌++◌, length, take, drop, Option, Some, None, Result, Err, IsUtf8, IsCharBoundary, SomeIff, chars, option_map, unwrap_or, refl, sym, ap, ◌∙◌, inl, inr, arith, append_assoc, append-nil, length-append, slice_get, encode_utf8_all, IsOk, option_and_then}
+use Rattle.std.proofs.lemmas.Grind.{common_steps}
+use Rattle.std.proofs.lemmas.Option.{gets}
+use Rattle.std.proofs.lemmas.Str.{IsCharBoundary-at_seam, IsCharBoundary-end, chars-encodes, encodes-append, encodes-chars, length-le-encodes, scalars-chars}
+use Rattle.std.specs.Result.{result_ok}
+use Rattle.std.specs.Str.{trim_start}
 use Rattle.std.specs.Iterator.{SkipsThenYields}
 use Rattle.std.proofs.Math.Utf8.{scalars}
 use Rattle.std.proofs.lemmas.Iterator.Consumers.{YieldsList-from_shown, nth_from_yields_List}
-use Rattle.humantime.proofs.Definitions.{bare_zero, take_while, is_numeric, is_point, is_whitespace, offset_of, Reads, SpelledSpan, WithinLimits, BeginsSpan, BreaksLimit, Fault, IsRangeIn, IsStoppedWith, NumberOverflow, after_number, after_word, span_of, word_of, AreItems, Items, GivesItem, item_of, items_left, span_view, IsDurationAnswer, duration_answer, left_at, view_at, walk, fault_at, stop_at}
 use Rattle.humantime.specs.declared.duration.error.DurationError.{DurationError}
 use Rattle.humantime.specs.declared.duration.iter.SpanIter.{SpanIter}
 use Rattle.humantime.specs.declared.duration.span.Span.{Span}

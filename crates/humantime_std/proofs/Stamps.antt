@@ -1,13 +1,12 @@
 -- The timestamp at the front of a line of a log.
-use Rattle.humantime.proofs.Prelude.{◌≡◌, ℕ, ◌+◌, ◌<◌, ◌≤◌, List, [], Option, Some, None, true, sym}
-use Rattle.humantime.proofs.Prelude.{length, take, drop, slice_index, position_or_len}
-use Rattle.humantime.proofs.Prelude.{arith, common_steps, nat_tests, prefix_len-le-length}
-use Rattle.humantime.proofs.Prelude.{length-drop, drop-drop, get_or-drop}
+use Rattle.std.proofs.Common.{◌≡◌, ℕ, ◌+◌, ◌<◌, ◌≤◌, List, [], Option, Some, None, true, sym, length, take, drop, slice_index, arith, length-drop, drop-drop, get_or-drop}
+use Rattle.std.proofs.lemmas.Bool.Decides.{nat_tests}
+use Rattle.std.proofs.lemmas.Grind.{common_steps}
 use Rattle.std.proofs.Math.Seq.{take-add}
-use Rattle.std.proofs.lemmas.List.Sums.{passes_at_first}
+use Rattle.std.proofs.lemmas.List.Sums.{passes_at_first, prefix_len-le-length}
 use Rattle.std.proofs.lemmas.Str.{IsCharBoundary-before_ascii, IsCharBoundary-after_ascii}
 use Rattle.std.specs.Char.{is_ascii_whitespace}
-use Rattle.std.specs.List.{position}
+use Rattle.std.specs.List.{position, position_or_len}
 use Rattle.humantime_std.specs.Logs.{stamp_of, after_stamp}
 
 white_is_ascii : (b : ℕ) → is_ascii_whitespace b ≡ true → b < 128

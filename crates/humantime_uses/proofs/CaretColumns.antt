@@ -1,9 +1,8 @@
 -- A caret line stands under its part.
-use Rattle.humantime.proofs.Prelude.{◌≡◌, ◌+◌, ◌<◌, ◌++◌, ◌⊎◌, ◌∙◌, ℕ, List, [], ◌∷◌, All, ap}
-use Rattle.humantime.proofs.Prelude.{append-nil, append_assoc, arith, inl, inr, join_with_byte}
-use Rattle.humantime.proofs.Prelude.{length, length-append, length-replicate, length-slice_split}
-use Rattle.humantime.proofs.Prelude.{map, refl, replicate, slice_split, slice_split_at}
-use Rattle.humantime.proofs.Prelude.{slice_split_none}
+use Rattle.std.proofs.Common.{◌≡◌, ◌+◌, ◌<◌, ◌++◌, ◌⊎◌, ◌∙◌, ℕ, List, [], ◌∷◌, All, ap, append-nil, append_assoc, arith, inl, inr, length, length-append, map, refl, replicate}
+use Rattle.std.proofs.lemmas.List.{length-replicate}
+use Rattle.std.proofs.lemmas.List.Splits.{length-slice_split, slice_split_at, slice_split_none}
+use Rattle.std.specs.List.{join_with_byte, slice_split}
 use Rattle.std.proofs.Math.Nat.{add-zero}
 use Rattle.std.proofs.lemmas.List.Elements.{All-append, All-cons, All-nil, All-replicate}
 use Rattle.humantime_lines.specs.Carets.{blanks, caret_line, columns, is_tab}

@@ -1,5 +1,21 @@
 -- Steps of proofs about a buffer that a call is lent, and that comes back with the bytes that its result leaves, once that is gone.
-use Rattle.humantime.proofs.StandardFacts.{Ura, ex_e, Lfts, Shares, toks, Goal, Item, Seq, Soaks, Step, step, show, Logic, sem, lft_new, lft_end, such_by, follows_by, Array, u8, ℕ, List, [], ◌∷◌, MutBor, full_share, SProp, id⊢, emp, sep, Fml, fsep, ftrue, flft, fres, named, fact, ‵, raw, ◌⊛◌, some, later, ◌$◌, ◌∵◌, !, qed, done, move, use1, use2, use3, split, join, pick, await, group, RattleType, MutRef, mut_vals, heard, says}
+use Rattle.std.proofs.Common.{ℕ, List, [], ◌∷◌, MutBor}
+use Rattle.std.specs.Borrow.{Array, u8}
+use base.Fml.{Fml, fsep, ftrue, flft, fres}
+use base.Fraction.{full_share}
+use base.Logic.{ex_e, SProp, id⊢, emp, sep}
+use contract.Lifetimes.{Lfts, Shares, toks}
+use contract.Monad.{fact}
+use denote.Follow.{such_by, follows_by}
+use denote.RattleType.{RattleType}
+use denote.Ref.{MutRef, mut_vals}
+use denote.Steps.{heard}
+use denote.Triple.Walked.{says}
+use mir.Syntax.{named}
+use seplogic.Ra.Ura.{Ura}
+use types.Kit.{Goal, Item, Seq, Soaks, Step, step, show, ‵, raw, ◌⊛◌, some, later, ◌$◌, ◌∵◌, !, qed, done, move, use1, use2, use3, split, join, pick, await, group}
+use types.Logic.{Logic, sem}
+use types.Tokens.{lft_new, lft_end}
 use denote.Lend.{lends_again, comes_back, LentAgain}
 use Rattle.humantime.specs.Buffers.{BufferHolds}
 

@@ -1,7 +1,14 @@
 -- The limits of any number, any fraction and any sum, what any span adds, both also as while trailing zeros of a fraction counted, and how
 -- any count is printed: each rule written out, so that it holds at every value.
-use Rattle.humantime.proofs.Prelude.{◌≡◌, ◌∙◌, ◌↔◌, ℕ, ◌+◌, ◌*◌, ◌/◌, ◌%◌, ◌^◌, ◌≤◌, List, [], ◌∷◌, ◌++◌, Some, None, length, refl, sym, ap, arith, codes, decimal, Bool, true, false, ◌&&◌, ◌||◌, ◌==◌, nat_le, nat_lt, if◌then◌else◌, option_map, sum_by, unwrap_or, IsSome, Option, AllByRecursion, zip, byte, nat_tests}
-use Rattle.humantime.proofs.Definitions.{decimal_value, without_trailing_zeros, in_nanos, in_seconds, in_seconds_and_nanos, scale_of_word, whole_nanos, SpelledSpan, Reads, Accepted, AllHaveRoom, BareZero, SumOf, Formed, WithinLimits, additions, additions_of, fits, fraction_additions, fraction_fits, has_room, has_too_many_digits, of_kind, quantity_nanos, size, times, too_long, total, value, OlderFormed, OlderFraction, older_additions, older_additions_of, older_fraction_additions, older_value, AcceptedWithZeros, OlderZero, OlderSum, Suffix, printed_count, printed_counts, joined_by_space, suffixes, weights, divided, duration_text}
+use Rattle.humantime.specs.Characters.{decimal_value, without_trailing_zeros}
+use Rattle.humantime.specs.DurationResults.{divided, duration_text}
+use Rattle.humantime.specs.Durations.{in_nanos, in_seconds, in_seconds_and_nanos, scale_of_word, whole_nanos, SpelledSpan, Reads, Accepted, AllHaveRoom, BareZero, SumOf, Formed, WithinLimits, additions, additions_of, fits, fraction_additions, fraction_fits, has_room, has_too_many_digits, of_kind, quantity_nanos, size, times, too_long, total, value}
+use Rattle.humantime.specs.Laws.{OlderFormed, OlderFraction, older_additions, older_additions_of, older_fraction_additions, older_value, AcceptedWithZeros, OlderZero, OlderSum}
+use Rattle.humantime.specs.PrintedDurations.{Suffix, printed_count, printed_counts, joined_by_space, suffixes, weights}
+use Rattle.std.proofs.Common.{◌≡◌, ◌∙◌, ◌↔◌, ℕ, ◌+◌, ◌*◌, ◌/◌, ◌%◌, ◌^◌, ◌≤◌, List, [], ◌∷◌, ◌++◌, Some, None, length, refl, sym, ap, arith, codes, decimal, Bool, true, false, ◌&&◌, ◌||◌, ◌==◌, nat_le, nat_lt, if◌then◌else◌, option_map, sum_by, unwrap_or, IsSome, Option, zip}
+use Rattle.std.proofs.lemmas.Bool.Decides.{nat_tests}
+use Rattle.std.specs.List.{AllByRecursion}
+use Rattle.std.specs.Str.{byte}
 use Rattle.humantime.specs.declared.unit.Scale.{Scale}
 use Rattle.humantime.proofs.Characters.{significant_last, significant_zero}
 

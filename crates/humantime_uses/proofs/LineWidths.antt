@@ -1,19 +1,16 @@
 -- The most columns of a line of shown characters, and of a caret line below it.
-use Rattle.humantime.proofs.Prelude.{◌≡◌, ◌≢◌, ◌+◌, ◌/◌, ◌%◌, ◌^◌, ◌<◌, ◌≤◌, ◌++◌, ◌∙◌, ℕ, zero}
-use Rattle.humantime.proofs.Prelude.{suc, true, false, List, [], ◌∷◌, IsUtf8, IsUtf8-append}
-use Rattle.humantime.proofs.Prelude.{IsUtf8-from_ascii, and_parts, ap, append-nil, append_assoc}
-use Rattle.humantime.proofs.Prelude.{arith, cases_eq, chars, chars-IsAscii, chars-append}
-use Rattle.humantime.proofs.Prelude.{chars-encodes, chars-nil, codes, encode_ascii, encode_utf8}
-use Rattle.humantime.proofs.Prelude.{flat_map, inl, inr, length, length-append, max, nat_tests}
-use Rattle.humantime.proofs.Prelude.{pow-suc, refl, slice_split_none, sum_by, sum_by-append, sym}
+use Rattle.std.proofs.Common.{◌≡◌, ◌≢◌, ◌+◌, ◌/◌, ◌%◌, ◌^◌, ◌<◌, ◌≤◌, ◌++◌, ◌∙◌, ℕ, zero, suc, true, false, List, [], ◌∷◌, IsUtf8, ap, append-nil, append_assoc, arith, chars, codes, encode_utf8, flat_map, inl, inr, length, length-append, max, refl, sum_by, sym}
+use Rattle.std.proofs.Math.Nat.{pow-suc}
+use Rattle.std.proofs.lemmas.Bool.Decides.{nat_tests}
+use Rattle.std.proofs.lemmas.List.Splits.{slice_split_none}
 use Rattle.std.specs.Char.{IsScalar}
 use Rattle.std.specs.Fmt.{digit_glyph, digits, digits_onto}
 use Rattle.std.specs.Str.{all_scalars}
 use Rattle.std.proofs.Math.Utf8.{scalar}
-use Rattle.std.proofs.lemmas.Bool.{cond_both}
+use Rattle.std.proofs.lemmas.Bool.{cond_both, and_parts, cases_eq}
 use Rattle.std.proofs.lemmas.List.Elements.{All-append, All-from_get_or, All-nil}
-use Rattle.std.proofs.lemmas.List.Sums.{sum_by-cons, sum_by-le}
-use Rattle.std.proofs.lemmas.Str.{IsUtf8-encode, IsUtf8-nil, inside_one}
+use Rattle.std.proofs.lemmas.List.Sums.{sum_by-cons, sum_by-le, sum_by-append}
+use Rattle.std.proofs.lemmas.Str.{IsUtf8-encode, IsUtf8-nil, inside_one, IsUtf8-append, IsUtf8-from_ascii, chars-IsAscii, chars-append, chars-encodes, chars-nil, encode_ascii}
 use Rattle.unicode_width.specs.Width.{char_width}
 use Rattle.unicode_width.proofs.Rules.{width_or_zero-le}
 use Rattle.humantime_lines.specs.Carets.{caret_line, columns, is_tab}

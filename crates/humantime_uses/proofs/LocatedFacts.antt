@@ -1,6 +1,16 @@
 -- Which bytes of any timestamp and any duration are wrong, and what stands under any line: each rule written out, so that it holds at every value.
-use Rattle.humantime.proofs.Prelude.{◌≡◌, ◌≢◌, ◌↔◌, ◌⊎◌, ℕ, ◌+◌, ◌<◌, ◌≤◌, List, [], ◌∷◌, ◌++◌, length, drop, refl, chars, arith, Bool, true, false, ◌||◌, ◌==◌, codes, slice_index, is_ascii_digit, is_in_range, prefix_len, zip, byte, cases_Bool, nat_tests}
-use Rattle.humantime.proofs.Definitions.{days_in_month, number_between, byte_length, offset_of, InvalidCharacter, NumberExpected, UnknownUnit, NumberOverflow, Empty, HasFault, after_word, span_of, too_long}
+use Rattle.humantime.specs.Calendar.{days_in_month}
+use Rattle.humantime.specs.Characters.{byte_length, offset_of}
+use Rattle.humantime.specs.DurationErrors.{InvalidCharacter, NumberExpected, UnknownUnit, NumberOverflow, Empty, HasFault, after_word, span_of}
+use Rattle.humantime.specs.Durations.{too_long}
+use Rattle.humantime.specs.Timestamps.{number_between}
+use Rattle.std.proofs.Common.{◌≡◌, ◌≢◌, ◌↔◌, ◌⊎◌, ℕ, ◌+◌, ◌<◌, ◌≤◌, List, [], ◌∷◌, ◌++◌, length, drop, refl, chars, arith, Bool, true, false, ◌||◌, ◌==◌, codes, slice_index, zip}
+use Rattle.std.proofs.lemmas.Bool.{cases_Bool}
+use Rattle.std.proofs.lemmas.Bool.Decides.{nat_tests}
+use Rattle.std.specs.Char.{is_ascii_digit}
+use Rattle.std.specs.Int.{is_in_range}
+use Rattle.std.specs.List.{prefix_len}
+use Rattle.std.specs.Str.{byte}
 use Rattle.humantime.specs.declared.date.error.TimestampError.{TimestampError}
 use Rattle.humantime.specs.declared.date.error.TimestampError.TheVariants.{OutOfRange, InvalidDigit, InvalidFormat}
 use Rattle.humantime.proofs.OnLiterals.{timestamps_on_literals}

@@ -1,8 +1,8 @@
 -- The timestamp of any line of a log, and what follows it: each rule written out.
-use Rattle.humantime.proofs.Prelude.{◌≡◌, ℕ, ◌≤◌, ◌==◌, ◌||◌, Bool, true, false, List, [], ◌∷◌}
-use Rattle.humantime.proofs.Prelude.{◌++◌, length, drop, take}
-use Rattle.humantime.proofs.Prelude.{before_first, after_first, position_or_len}
-use Rattle.humantime.proofs.Prelude.{AllByRecursion, arith, common_steps, nat_tests, refl}
+use Rattle.std.proofs.Common.{◌≡◌, ℕ, ◌≤◌, ◌==◌, ◌||◌, Bool, true, false, List, [], ◌∷◌, ◌++◌, length, drop, take, arith, refl}
+use Rattle.std.proofs.lemmas.Bool.Decides.{nat_tests}
+use Rattle.std.proofs.lemmas.Grind.{common_steps}
+use Rattle.std.specs.List.{before_first, after_first, position_or_len, AllByRecursion}
 use Rattle.std.proofs.Math.Seq.{drop-append-add, drop-append_seam, take-append_seam}
 use Rattle.std.specs.Char.{is_ascii_whitespace}
 use Rattle.humantime_std.specs.Logs.{after_stamp, stamp_of}

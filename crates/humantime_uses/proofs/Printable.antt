@@ -1,7 +1,10 @@
 -- Printable ASCII has one column a byte, and no tab.
-use Rattle.humantime.proofs.Prelude.{◌≡◌, ◌<◌, ◌++◌, ◌∙◌, ℕ, Bool, true, false, List, All, IsAscii}
-use Rattle.humantime.proofs.Prelude.{ap, arith, chars-IsAscii, is_in_range, length, list_all}
-use Rattle.humantime.proofs.Prelude.{list_all-append, nat_tests, replicate}
+use Rattle.std.proofs.Common.{◌≡◌, ◌<◌, ◌++◌, ◌∙◌, ℕ, Bool, true, false, List, All, IsAscii, ap, arith, length, replicate}
+use Rattle.std.proofs.lemmas.Bool.Decides.{nat_tests}
+use Rattle.std.proofs.lemmas.List.Folds.{list_all-append}
+use Rattle.std.proofs.lemmas.Str.{chars-IsAscii}
+use Rattle.std.specs.Int.{is_in_range}
+use Rattle.std.specs.List.{list_all}
 use Rattle.std.proofs.lemmas.List.Elements.{All-replicate, All-weaker}
 use Rattle.std.proofs.lemmas.List.Sums.{AllPass-from_list_all, list_all-from_AllPass}
 use Rattle.std.proofs.lemmas.Str.Ascii.{IsAscii-from_all}

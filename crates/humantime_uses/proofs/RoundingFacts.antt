@@ -1,8 +1,9 @@
 -- The nearest multiple of any step to any duration, by its quotient and its rest, and what follows.
-use Rattle.humantime.proofs.Prelude.{◌≡◌, ◌≢◌, ℕ, ◌+◌, ◌-◌, ◌*◌, ◌/◌, ◌%◌, ◌<◌, ◌≤◌}
-use Rattle.humantime.proofs.Prelude.{arith, nat_tests, cases_lt, inl, inr, mul-le}
+use Rattle.std.proofs.Common.{◌≡◌, ◌≢◌, ℕ, ◌+◌, ◌-◌, ◌*◌, ◌/◌, ◌%◌, ◌<◌, ◌≤◌, arith, inl, inr}
+use Rattle.std.proofs.lemmas.Bool.{cases_lt}
+use Rattle.std.proofs.lemmas.Bool.Decides.{nat_tests}
 use Rattle.std.proofs.Math.Nat.{mul-mod_left}
-use Rattle.std.proofs.lemmas.Nat.{div-add-mod', div-mul-add, row_fits}
+use Rattle.std.proofs.lemmas.Nat.{div-add-mod', div-mul-add, row_fits, mul-le}
 use Rattle.humantime_std.specs.Rounding.{nearest_multiple}
 
 -- A rest below half of the step is dropped, and any other one is filled up to the step.

@@ -1,7 +1,12 @@
 -- The grammar of spans, each row of the table of first errors, the items of a text and the views of spans: each rule written out for any
 -- text, wherever its parts begin.
-use Rattle.humantime.proofs.Prelude.{◌≡◌, ◌≢◌, ◌⊎◌, ℕ, ◌-◌, List, [], ◌∷◌, ◌++◌, None, Some, Ok, Err, map, filter, length, drop, refl, Bool, true, false, ◌||◌, codes, encode_utf8_all, if◌then◌else◌, option_map, option_to_list, Option, IsSome, Bor, AllByRecursion, digits_value}
-use Rattle.humantime.proofs.Definitions.{take_while, drop_while, begins, ends, is_whitespace, is_digit, is_letter, is_point, SpelledSpan, Spells, SpellsFraction, SpellsEach, SpellsAll, Reads, Formed, WithinLimits, scale_of_word, too_long, number_of, after_number, fraction_of, after_fraction, word_of, after_word, span_of, may_follow_span, Fault, InvalidCharacter, NumberExpected, UnknownUnit, NumberOverflow, Empty, Split, BeginsNumber, IsStoppedWith, OnlyWhitespace, NoNumber, TooLong, NoLetterAfterNumber, PointWithoutDigits, NoLetterAfterPoint, WordNotEnded, NoWord, UnknownWord, BreaksLimit, HasFault, fault_of, place_of, result_view, text_result_view, EndsOrStops, Items, SpanView, IsDigitSlice, IsFractionView, IsSpanView, AreSpanViews, AreItems}
+use Rattle.humantime.specs.Characters.{take_while, drop_while, begins, ends, is_whitespace, is_digit, is_letter, is_point}
+use Rattle.humantime.specs.DurationErrors.{number_of, after_number, fraction_of, after_fraction, word_of, after_word, span_of, may_follow_span, Fault, InvalidCharacter, NumberExpected, UnknownUnit, NumberOverflow, Empty, Split, BeginsNumber, IsStoppedWith, OnlyWhitespace, NoNumber, TooLong, NoLetterAfterNumber, PointWithoutDigits, NoLetterAfterPoint, WordNotEnded, NoWord, UnknownWord, BreaksLimit, HasFault, fault_of, place_of, result_view, text_result_view}
+use Rattle.humantime.specs.Durations.{SpelledSpan, Spells, SpellsFraction, SpellsEach, SpellsAll, Reads, Formed, WithinLimits, scale_of_word, too_long}
+use Rattle.humantime.specs.Items.{EndsOrStops, Items, SpanView, IsDigitSlice, IsFractionView, IsSpanView, AreSpanViews, AreItems}
+use Rattle.std.proofs.Common.{◌≡◌, ◌≢◌, ◌⊎◌, ℕ, ◌-◌, List, [], ◌∷◌, ◌++◌, None, Some, Ok, Err, map, filter, length, drop, refl, Bool, true, false, ◌||◌, codes, encode_utf8_all, if◌then◌else◌, option_map, option_to_list, Option, IsSome, Bor}
+use Rattle.std.specs.List.{AllByRecursion}
+use Rattle.std.specs.Str.Parse.{digits_value}
 use Rattle.humantime.specs.declared.duration.error.DurationError.{DurationError}
 use Rattle.humantime.specs.declared.duration.error.DurationError.TheVariants as errors
 

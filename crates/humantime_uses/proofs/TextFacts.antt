@@ -1,6 +1,15 @@
 -- What texts of durations consist of, at any length: whitespace, digits, letters, points, the words of the units; messages; and laws.
-use Rattle.humantime.proofs.Prelude.{◌≡◌, ◌↔◌, ◌⊎◌, ℕ, List, [], ◌∷◌, ◌++◌, Ok, Err, map, filter, refl, chars, codes, bytes_eq, decimal, ◌&&◌, ◌||◌, ◌==◌, nat_le, not, true, option_to_list, IsPermutation, AllByRecursion, char_set_contains, lookup}
-use Rattle.humantime.proofs.Definitions.{Accepted, AreReordered, ExactlyOne, HasFault, IsCanonicalOf, IsCanonicalText, IsTiled, Reads, SpanView, SpelledSpan, WithinLimits, slices_of, Fault, InvalidCharacter, NumberExpected, UnknownUnit, NumberOverflow, Empty, fault_message, timestamp_message, without_whitespace, IsOutcome, IsZeroOrSpans, is_gap, whitespace_chars, is_whitespace, is_digit, is_letter, is_point, in_nanos, in_seconds, in_seconds_and_nanos, scale_of_word, whole_nanos, words}
+use Rattle.humantime.specs.Characters.{whitespace_chars, is_whitespace, is_digit, is_letter, is_point}
+use Rattle.humantime.specs.DurationErrors.{HasFault, Fault, InvalidCharacter, NumberExpected, UnknownUnit, NumberOverflow, Empty, fault_message}
+use Rattle.humantime.specs.Durations.{Accepted, Reads, SpelledSpan, WithinLimits, in_nanos, in_seconds, in_seconds_and_nanos, scale_of_word, whole_nanos, words}
+use Rattle.humantime.specs.Items.{SpanView}
+use Rattle.humantime.specs.Laws.{AreReordered, ExactlyOne, IsTiled, slices_of, without_whitespace, IsOutcome, IsZeroOrSpans, is_gap}
+use Rattle.humantime.specs.PrintedDurations.{IsCanonicalOf, IsCanonicalText}
+use Rattle.humantime.specs.Timestamps.{timestamp_message}
+use Rattle.std.proofs.Common.{◌≡◌, ◌↔◌, ◌⊎◌, ℕ, List, [], ◌∷◌, ◌++◌, Ok, Err, map, filter, refl, chars, codes, bytes_eq, decimal, ◌&&◌, ◌||◌, ◌==◌, nat_le, not, true, option_to_list, IsPermutation}
+use Rattle.std.specs.Char.{char_set_contains}
+use Rattle.std.specs.List.{AllByRecursion}
+use Rattle.std.specs.Map.{lookup}
 use Rattle.humantime.specs.declared.date.error.TimestampError.TheVariants.{OutOfRange, InvalidDigit, InvalidFormat}
 
 -- ---- characters

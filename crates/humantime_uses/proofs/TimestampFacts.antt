@@ -1,6 +1,14 @@
 -- What holds of any date, timestamp, moment and run of a job: each rule written out.
-use Rattle.humantime.proofs.Prelude.{◌≡◌, ◌≢◌, ◌↔◌, ℕ, ◌+◌, ◌-◌, ◌*◌, ◌/◌, ◌%◌, ◌^◌, ◌≤◌, List, [], ◌∷◌, ◌++◌, None, Some, suc, length, take, drop, refl, arith, ℤ, ◌+ℤ◌, ◌≤ℤ◌, ◌<ℤ◌, pos, negsuc, Bool, true, false, ◌&&◌, ◌||◌, ◌==◌, nat_le, if◌then◌else◌, codes, min, not, option_map, slice_index, slice_range, nat_eq, IsTrue, is_ascii_digit, ends_with, list_all, byte, all_ascii_digits, nat_tests, ints}
-use Rattle.humantime.proofs.Definitions.{cut, places_of, IsPrintable, IsPrinted, IsStrictMoment, IsWeakMoment, ReadsAs, decimal_value, IsDate, days_in_month, days_of_months, days_of_years, is_valid, day_of, date_time_of, ends_in_zone, first_failed, fraction_part, has_two, is_valid_date_time, strict_checks, weak_checks, Fields, Letter_T, Space, NoZone, Letter_Z, ZeroOffset, IsStrict, IsWeak, fields_text, fraction_digits, fraction_nanos, fraction_text, moment_of, separator_byte, zone_text}
+use Rattle.humantime.specs.Calendar.{IsDate, days_in_month, days_of_months, days_of_years, is_valid, day_of}
+use Rattle.humantime.specs.Characters.{decimal_value}
+use Rattle.humantime.specs.Laws.{ReadsAs}
+use Rattle.humantime.specs.Timestamps.{cut, places_of, IsPrintable, IsPrinted, IsStrictMoment, IsWeakMoment, date_time_of, ends_in_zone, first_failed, fraction_part, has_two, is_valid_date_time, strict_checks, weak_checks, Fields, Letter_T, Space, NoZone, Letter_Z, ZeroOffset, IsStrict, IsWeak, fields_text, fraction_digits, fraction_nanos, fraction_text, moment_of, separator_byte, zone_text}
+use Rattle.std.proofs.Common.{◌≡◌, ◌≢◌, ◌↔◌, ℕ, ◌+◌, ◌-◌, ◌*◌, ◌/◌, ◌%◌, ◌^◌, ◌≤◌, List, [], ◌∷◌, ◌++◌, None, Some, suc, length, take, drop, refl, arith, ℤ, ◌+ℤ◌, ◌≤ℤ◌, ◌<ℤ◌, pos, negsuc, Bool, true, false, ◌&&◌, ◌||◌, ◌==◌, nat_le, if◌then◌else◌, codes, min, not, option_map, slice_index, slice_range, nat_eq, IsTrue}
+use Rattle.std.proofs.lemmas.Bool.Decides.{nat_tests}
+use Rattle.std.proofs.lemmas.Int.{ints}
+use Rattle.std.specs.Char.{is_ascii_digit}
+use Rattle.std.specs.List.{ends_with, list_all}
+use Rattle.std.specs.Str.{byte, all_ascii_digits}
 use Rattle.humantime.specs.declared.calendar.Date.{Date}
 use Rattle.humantime.specs.declared.date.error.TimestampError.{TimestampError}
 use Rattle.humantime.specs.declared.date.error.TimestampError.TheVariants.{OutOfRange, InvalidDigit, InvalidFormat}

@@ -1,4 +1,5 @@
-use Rattle.humantime.proofs.Prelude.{ap, ◌∙◌, inr, subst, MatchResult-from_err}
+use Rattle.std.proofs.Common.{ap, ◌∙◌, inr, subst}
+use Rattle.std.proofs.lemmas.Result.{MatchResult-from_err}
 use Rattle.humantime_cli.specs.Answers.{texts, Answers}
 use Rattle.humantime_cli.proofs.AnswerLemmas.{flushed}
 use Rattle.humantime_cli.proofs.run_args.Goals as goal

@@ -1,4 +1,5 @@
-use Rattle.humantime.proofs.Prelude.{arith, ◌-◌, nat_tests}
+use Rattle.std.proofs.Common.{arith, ◌-◌}
+use Rattle.std.proofs.lemmas.Bool.Decides.{nat_tests}
 use Rattle.humantime.proofs.Dates.{date_found, march_months_in_table}
 use Rattle.humantime.proofs.calendar.date_of_day.Goals as goal
 

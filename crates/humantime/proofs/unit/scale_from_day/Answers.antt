@@ -1,5 +1,7 @@
-use Rattle.humantime.proofs.Prelude.{nat_tests, None, arith, length}
-use Rattle.humantime.proofs.Definitions.{seconds_per_day, words_from}
+use Rattle.humantime.specs.PrivateFunctions.{words_from}
+use Rattle.humantime.specs.Values.{seconds_per_day}
+use Rattle.std.proofs.Common.{None, arith, length}
+use Rattle.std.proofs.lemmas.Bool.Decides.{nat_tests}
 use Rattle.humantime.proofs.UnitWords.{at_each_length, from_day}
 use Rattle.humantime.proofs.unit.scale_from_day.Goals as goal
 

@@ -1,5 +1,7 @@
-use Rattle.humantime.proofs.Prelude.{nat_tests, chars, arith, length}
-use Rattle.humantime.proofs.Definitions.{seconds_per_day, words_below, words_from, scale_from}
+use Rattle.humantime.specs.PrivateFunctions.{words_below, words_from, scale_from}
+use Rattle.humantime.specs.Values.{seconds_per_day}
+use Rattle.std.proofs.Common.{chars, arith, length}
+use Rattle.std.proofs.lemmas.Bool.Decides.{nat_tests}
 use Rattle.humantime.proofs.UnitWords.{at_each_length, from_second}
 use Rattle.humantime.proofs.unit.scale_from_second.Goals as goal
 

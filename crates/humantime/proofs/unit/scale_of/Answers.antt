@@ -1,5 +1,7 @@
-use Rattle.humantime.proofs.Prelude.{nat_tests, chars, arith, length}
-use Rattle.humantime.proofs.Definitions.{words, words_below, scale_from}
+use Rattle.humantime.specs.Durations.{words}
+use Rattle.humantime.specs.PrivateFunctions.{words_below, scale_from}
+use Rattle.std.proofs.Common.{chars, arith, length}
+use Rattle.std.proofs.lemmas.Bool.Decides.{nat_tests}
 use Rattle.humantime.proofs.UnitWords.{at_each_length, below_second}
 use Rattle.humantime.proofs.unit.scale_of.Goals as goal
 

@@ -1,4 +1,5 @@
-use Rattle.humantime.proofs.Prelude.{arith, refl, ◌≡◌, None, common_steps}
+use Rattle.std.proofs.Common.{arith, refl, ◌≡◌, None}
+use Rattle.std.proofs.lemmas.Grind.{common_steps}
 use Rattle.humantime.proofs.Theorems.{weak_printable, strict_printable}
 use Rattle.humantime_cli.specs.Answers.{Duration, Strict, Weak, Answers, texts}
 use Rattle.humantime_cli.proofs.AnswerLemmas.{has_text, tells_duration, tells_moment, not_two, unnamed, to_err}

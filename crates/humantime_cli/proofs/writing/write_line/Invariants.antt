@@ -1,4 +1,4 @@
-use Rattle.humantime.proofs.Prelude.{◌<◌, ◌-◌, [], length, take, unwrap_or}
+use Rattle.std.proofs.Common.{◌<◌, ◌-◌, [], length, take, unwrap_or}
 use Rattle.std.specs.Io.KnownBytes.{Appends}
 use Rattle.humantime_cli.specs.Writes.{line}
 use Rattle.humantime_cli.proofs.writing.write_line.Given as goal

@@ -1,4 +1,5 @@
-use Rattle.humantime.proofs.Prelude.{arith, common_steps}
+use Rattle.std.proofs.Common.{arith}
+use Rattle.std.proofs.lemmas.Grind.{common_steps}
 use Rattle.humantime.specs.Laws.{IsDateOfDay}
 use Rattle.humantime_std.proofs.Months.{IsFirstFrom, month_found}
 use Rattle.humantime_std.proofs.times.month_start.Goals as goal

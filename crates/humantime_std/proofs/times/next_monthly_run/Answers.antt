@@ -1,4 +1,6 @@
-use Rattle.humantime.proofs.Prelude.{arith, common_steps, ints}
+use Rattle.std.proofs.Common.{arith}
+use Rattle.std.proofs.lemmas.Grind.{common_steps}
+use Rattle.std.proofs.lemmas.Int.{ints}
 use Rattle.humantime_std.proofs.NextRuns.{IsFirstMidnight, IsMonthFrom, monthly_found}
 use Rattle.humantime_std.proofs.times.next_monthly_run.Goals as goal
 

@@ -1,4 +1,23 @@
-use Rattle.humantime.proofs.StandardFacts.{Array, u8, IfNone, ◌≡◌, ℕ, List, [], ◌∷◌, refl, MutBor, arith, proved, full_share, named, Val, vunit, tables, raw, ◌$◌, ◌∵◌, !, qed, done, move, keep, fjoin, feq_i, suffices, frame, enter, of_opd, unit_lit, addr, stop, no_more, and_then, returns, alloc_all, pass_all, free_all, look_at, get, through, sets, lands_as, RefOf, yes, lone, ShrRef, mut_vals, shr_vals, mut_Tells, shr_Tells, plain, type_at, nothing, calls_at, triple_of, Stays, stay_dropped, Goes-dropped, stay_ref, Goes-ref, ends_at, says, framed}
+use Rattle.std.proofs.Common.{IfNone, ◌≡◌, ℕ, List, [], ◌∷◌, refl, MutBor, arith}
+use Rattle.std.proofs.raw_atomic.Walks.{proved}
+use Rattle.std.specs.Borrow.{Array, u8}
+use base.Fraction.{full_share}
+use contract.Running.{tables}
+use denote.Builtin.{RefOf}
+use denote.Exit.{yes}
+use denote.Memory.{lone}
+use denote.Ref.{ShrRef, mut_vals, shr_vals, mut_Tells, shr_Tells}
+use denote.Signature.{plain, type_at}
+use denote.Steps.{nothing}
+use denote.Triple.Call.{calls_at}
+use denote.Triple.Spec.{triple_of}
+use denote.Triple.Table.{framed}
+use denote.Triple.Walked.{Stays, stay_dropped, Goes-dropped, stay_ref, Goes-ref, ends_at, says}
+use mir.Syntax.{named}
+use mir.Val.{Val, vunit}
+use types.ByLocal.{alloc_all, pass_all, free_all, look_at, get, through, sets, lands_as}
+use types.Kit.{raw, ◌$◌, ◌∵◌, !, qed, done, move, keep, fjoin, feq_i, suffices, frame}
+use types.Run.{enter, of_opd, unit_lit, addr, stop, no_more, and_then, returns}
 use Rattle.humantime.proofs.Buffers.{returned, hears}
 use Rattle.humantime_uses.proofs.Kept.{lent, back, last_held}
 use Rattle.humantime.specs.contracts.date.print.Rfc3339Timestamp.{the_row as Self}

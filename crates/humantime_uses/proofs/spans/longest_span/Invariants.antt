@@ -1,4 +1,4 @@
-use Rattle.humantime.proofs.Prelude.{◌≡◌, max}
+use Rattle.std.proofs.Common.{◌≡◌, max}
 use Rattle.humantime.specs.Prelude.{items_left, text_of}
 use Rattle.humantime_uses.specs.SpanItems.{longest_of}
 use Rattle.humantime_uses.proofs.spans.longest_span.Given as goal

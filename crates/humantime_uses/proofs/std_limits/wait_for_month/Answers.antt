@@ -1,4 +1,5 @@
-use Rattle.humantime.proofs.Prelude.{arith, common_steps}
+use Rattle.std.proofs.Common.{arith}
+use Rattle.std.proofs.lemmas.Grind.{common_steps}
 use Rattle.humantime_std.proofs.NextRuns.{due_in_range}
 use Rattle.humantime_uses.proofs.std_limits.wait_for_month.Goals as goal
 

@@ -1,4 +1,5 @@
-use Rattle.humantime.proofs.Prelude.{rules, Decides-like}
+use Rattle.std.proofs.Common.{rules}
+use Rattle.std.proofs.lemmas.Bool.Decides.{Decides-like}
 use Rattle.humantime.proofs.Theorems.{stamps_between}
 use Rattle.humantime_uses.proofs.timestamps.is_between.Goals as goal
 

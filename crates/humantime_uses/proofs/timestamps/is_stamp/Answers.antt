@@ -1,4 +1,5 @@
-use Rattle.humantime.proofs.Prelude.{◌≡◌, ℕ, List, refl, sym, ◌∙◌, arith, ◌↔◌, ℤ, Ok, bytes_eq-Decides}
+use Rattle.std.proofs.Common.{◌≡◌, ℕ, List, refl, sym, ◌∙◌, arith, ◌↔◌, ℤ, Ok}
+use Rattle.std.proofs.lemmas.Slice.Eq.{bytes_eq-Decides}
 use Rattle.humantime.specs.Prelude.{IsPrinted, IsPrintedWith, IsPrintable, strict_answer}
 use Rattle.humantime.proofs.Theorems.{printed_if_read_back, strict_printable, printed_moment_reads}
 use Rattle.humantime_uses.proofs.timestamps.is_stamp.Goals as goal

@@ -1,4 +1,5 @@
-use Rattle.humantime.proofs.Prelude.{refl, arith, common_steps}
+use Rattle.std.proofs.Common.{refl, arith}
+use Rattle.std.proofs.lemmas.Grind.{common_steps}
 use Rattle.humantime.proofs.Theorems.{weak_printable}
 use Rattle.humantime_uses.proofs.timestamps.sortable_stamp.Goals as goal
 

@@ -1,4 +1,7 @@
-use Rattle.humantime.proofs.Prelude.{◌≡◌, refl, sym, arith, nat_tests, common_steps, take_rest}
+use Rattle.std.proofs.Common.{◌≡◌, refl, sym, arith}
+use Rattle.std.proofs.lemmas.Bool.Decides.{nat_tests}
+use Rattle.std.proofs.lemmas.Grind.{common_steps}
+use Rattle.std.proofs.lemmas.List.{take_rest}
 use Rattle.humantime.proofs.TimestampParts.{next_digit, next_place, nine_read}
 use Rattle.humantime.proofs.date.parse.fraction_nanos.Goals as goal
 

@@ -1,4 +1,5 @@
-use Rattle.humantime.proofs.Prelude.{◌≡◌, ◌+◌, ◌*◌, ◌/◌, ◌^◌, ◌<◌, ◌≤◌, length, drop, all_ascii_digits}
+use Rattle.std.proofs.Common.{◌≡◌, ◌+◌, ◌*◌, ◌/◌, ◌^◌, ◌<◌, ◌≤◌, length, drop}
+use Rattle.std.specs.Str.{all_ascii_digits}
 use Rattle.humantime.proofs.TimestampParts.{add_digits}
 use Rattle.humantime.proofs.date.parse.fraction_nanos.Given as goal
 

@@ -1,5 +1,7 @@
 use Rattle.std.proofs.Common.{◌≡◌, chars, length, map}
-use Rattle.humantime.proofs.Definitions.{span_in, item_views, sum_spans, items_left, text_of}
+use Rattle.humantime.specs.DurationResults.{span_in, item_views}
+use Rattle.humantime.specs.SpanResults.{items_left, text_of}
+use Rattle.humantime.specs.Walks.{sum_spans}
 use Rattle.humantime.proofs.duration.parse.sum_of.Given as goal
 
 abbrev pub invariant-loop-item : goal.invariant-loop-item

@@ -1,6 +1,25 @@
 -- The contract of `canonical`, proved by hand, in the five steps that `proofs/date/print/Rfc3339Timestamp/text/Proof.antt` describes. Here the
 -- calls are those of `write_canonical` and `text_or_error`.
-use Rattle.humantime.proofs.StandardFacts.{IsUtf8, IfOk, OnErr, take, Array, u8, ◌≡◌, ℕ, ◌≤◌, List, [], ◌∷◌, refl, Bor, arith, proved, id⊢, emp, named, fact, fact_i, tables, raw, ◌$◌, ◌∵◌, !, qed, by, move, keep, use0, use2, join, fjoin, suffices, frame, group, enter, of_opd, addr, stop, no_more, and_then, returns, alloc_all, pass_all, free_all, look_at, get, through, sets, lands_as, yes, no, lone, mut_vals, shr_vals, mut_Tells, plain, type_at, nothing, heard, StrRefOf, str-laws, calls_at, triple_of, Stays, stay_dropped, Goes-dropped, Goes-spent_ref, ends_at, framed}
+use Rattle.std.proofs.Common.{IsUtf8, IfOk, OnErr, take, ◌≡◌, ℕ, ◌≤◌, List, [], ◌∷◌, refl, Bor, arith}
+use Rattle.std.proofs.raw_atomic.Walks.{proved}
+use Rattle.std.specs.Borrow.{Array, u8}
+use base.Logic.{id⊢, emp}
+use contract.Monad.{fact, fact_i}
+use contract.Running.{tables}
+use denote.Exit.{yes, no}
+use denote.Memory.{lone}
+use denote.Ref.{mut_vals, shr_vals, mut_Tells}
+use denote.Signature.{plain, type_at}
+use denote.Steps.{nothing, heard}
+use denote.Text.{StrRefOf, str-laws}
+use denote.Triple.Call.{calls_at}
+use denote.Triple.Spec.{triple_of}
+use denote.Triple.Table.{framed}
+use denote.Triple.Walked.{Stays, stay_dropped, Goes-dropped, Goes-spent_ref, ends_at}
+use mir.Syntax.{named}
+use types.ByLocal.{alloc_all, pass_all, free_all, look_at, get, through, sets, lands_as}
+use types.Kit.{raw, ◌$◌, ◌∵◌, !, qed, by, move, keep, use0, use2, join, fjoin, suffices, frame, group}
+use types.Run.{enter, of_opd, addr, stop, no_more, and_then, returns}
 use Rattle.humantime.proofs.Buffers.{holds, returned, hears, shares_last, tells}
 use Rattle.humantime.proofs.CanonicalTexts.{answer_is_canonical, answer_is_fault}
 use Rattle.humantime.specs.contracts.duration.print.canonical as f

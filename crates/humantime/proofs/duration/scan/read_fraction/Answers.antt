@@ -1,5 +1,9 @@
-use Rattle.humantime.proofs.Prelude.{nat_tests, common_steps, IsCharBoundary-start, ◌≡◌, ◌+◌, ◌++◌, ◌∷◌, [], chars, drop, false, arith, rules, length-append, append-nil, append_assoc}
-use Rattle.humantime.proofs.Definitions.{begins, is_numeric, without_trailing_zeros, number_of}
+use Rattle.humantime.specs.Characters.{begins, is_numeric, without_trailing_zeros}
+use Rattle.humantime.specs.DurationErrors.{number_of}
+use Rattle.std.proofs.Common.{◌≡◌, ◌+◌, ◌++◌, ◌∷◌, [], chars, drop, false, arith, rules, length-append, append-nil, append_assoc}
+use Rattle.std.proofs.lemmas.Bool.Decides.{nat_tests}
+use Rattle.std.proofs.lemmas.Grind.{common_steps}
+use Rattle.std.proofs.lemmas.Str.{IsCharBoundary-start}
 use Rattle.humantime.proofs.SpanParts.{read_digit, read_whitespace, stops_here}
 use Rattle.humantime.proofs.Offsets.{front_is, no_chars_at}
 use Rattle.humantime.proofs.duration.scan.read_fraction.Goals as goal

@@ -1,4 +1,7 @@
-use Rattle.humantime.proofs.Prelude.{nat_tests, common_steps, digit_value_digit, IsCharBoundary-start, ◌≡◌, chars, drop, false, arith, rules}
+use Rattle.std.proofs.Common.{◌≡◌, chars, drop, false, arith, rules}
+use Rattle.std.proofs.lemmas.Bool.Decides.{nat_tests}
+use Rattle.std.proofs.lemmas.Grind.{common_steps}
+use Rattle.std.proofs.lemmas.Str.{digit_value_digit, IsCharBoundary-start}
 use Rattle.humantime.specs.Characters.{begins, is_numeric}
 use Rattle.humantime.proofs.Characters.{digit_is}
 use Rattle.humantime.proofs.SpanParts.{first_digit, digit_range, read_digit, read_whitespace, stops_here, value_grows}

@@ -1,5 +1,7 @@
-use Rattle.humantime.proofs.Prelude.{◌≡◌, ◌≤◌, ◌-◌, chars, drop, length, IsCharBoundary, digits_value_after}
-use Rattle.humantime.proofs.Definitions.{decimal_value, u64_max, number_of, after_number}
+use Rattle.humantime.specs.Characters.{decimal_value, u64_max}
+use Rattle.humantime.specs.DurationErrors.{number_of, after_number}
+use Rattle.std.proofs.Common.{◌≡◌, ◌≤◌, ◌-◌, chars, drop, length, IsCharBoundary}
+use Rattle.std.specs.Str.Parse.{digits_value_after}
 use Rattle.humantime.proofs.duration.scan.read_number.Given as goal
 
 abbrev pub invariant-loop-at : goal.invariant-loop-at

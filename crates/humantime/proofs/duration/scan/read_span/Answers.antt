@@ -1,4 +1,5 @@
-use Rattle.humantime.proofs.Prelude.{common_steps, arith}
+use Rattle.std.proofs.Common.{arith}
+use Rattle.std.proofs.lemmas.Grind.{common_steps}
 use Rattle.humantime.proofs.Offsets.{tail_place, tail_tail}
 use Rattle.humantime.proofs.duration.scan.read_span.Goals as goal
 

@@ -1,4 +1,5 @@
-use Rattle.humantime.proofs.Prelude.{common_steps, arith}
+use Rattle.std.proofs.Common.{arith}
+use Rattle.std.proofs.lemmas.Grind.{common_steps}
 use Rattle.humantime.proofs.Offsets.{whitespace_ends}
 use Rattle.humantime.proofs.Characters.{digit_is_numeric, digit_not_whitespace}
 use Rattle.humantime.proofs.duration.scan.skip_span_end.Goals as goal

@@ -1,4 +1,5 @@
-use Rattle.humantime.proofs.Prelude.{inl, refl, IfOk-weaker}
+use Rattle.std.proofs.Common.{inl, refl}
+use Rattle.std.proofs.lemmas.Result.{IfOk-weaker}
 use Rattle.humantime_settings.specs.Texts.{one_text}
 use Rattle.humantime_settings.proofs.fields.AnyValue.read.Goals as goal
 

@@ -1,4 +1,5 @@
-use Rattle.humantime.proofs.Prelude.{refl, on_ok_weaker}
+use Rattle.std.proofs.Common.{refl}
+use Rattle.std.proofs.lemmas.Result.{on_ok_weaker}
 use Rattle.humantime_settings.specs.Texts.{one_text}
 use Rattle.humantime_settings.proofs.fields.AnyValue.write.Goals as goal
 

@@ -1,4 +1,5 @@
-use Rattle.humantime.proofs.Prelude.{[], ◌∷◌, ◌++◌, None, String, Global, string_bytes, string_cmp, refl, rules, ◌∙◌, eq_by_cmp}
+use Rattle.std.proofs.Common.{[], ◌∷◌, ◌++◌, None, String, Global, string_bytes, string_cmp, refl, rules, ◌∙◌}
+use Rattle.std.specs.Ordering.{eq_by_cmp}
 use Rattle.std.proofs.lemmas.Map.{update_all_push}
 use Rattle.std.specs.BTreeMap.{get}
 use Rattle.humantime_settings.specs.Texts.{IsEntry, ReadsEntry, entries}

@@ -1,4 +1,6 @@
-use Rattle.humantime.proofs.Prelude.{◌≡◌, length, Some, string_bytes, refl, subst, arith, rules, common_steps, on_ok_weaker}
+use Rattle.std.proofs.Common.{◌≡◌, length, Some, string_bytes, refl, subst, arith, rules}
+use Rattle.std.proofs.lemmas.Grind.{common_steps}
+use Rattle.std.proofs.lemmas.Result.{on_ok_weaker}
 use Rattle.serde.specs.Event.{Logs, map_begins}
 use Rattle.serde.proofs.Events.{WritesUpTo-all, WritesUpTo-more}
 use Rattle.humantime_settings.proofs.Forms.{WritesPair, map_written}

@@ -1,5 +1,8 @@
-use Rattle.humantime.proofs.Prelude.{◌≡◌, arith, ℕ, ℤ, List, Ok, on_ok_weaker}
-use Rattle.humantime.proofs.Definitions.{IsPrinted, cut, places_of, weak_answer, MomentPrintsAndReads}
+use Rattle.humantime.specs.Laws.{MomentPrintsAndReads}
+use Rattle.humantime.specs.TimestampResults.{weak_answer}
+use Rattle.humantime.specs.Timestamps.{IsPrinted, cut, places_of}
+use Rattle.std.proofs.Common.{◌≡◌, arith, ℕ, ℤ, List, Ok}
+use Rattle.std.proofs.lemmas.Result.{on_ok_weaker}
 use Rattle.humantime_settings.proofs.fields.SystemTimeText.write_text.Goals as goal
 
 -- The default number of digits loses nothing.

@@ -1,4 +1,5 @@
-use Rattle.humantime.proofs.Prelude.{rules, on_ok_weaker}
+use Rattle.std.proofs.Common.{rules}
+use Rattle.std.proofs.lemmas.Result.{on_ok_weaker}
 use Rattle.serde.proofs.Events.{WritesEach-more, WritesSeq-ends}
 use Rattle.humantime_settings.proofs.Forms.{WritesText, list_written}
 use Rattle.humantime_settings.proofs.fields.VecValue.write.Goals as goal

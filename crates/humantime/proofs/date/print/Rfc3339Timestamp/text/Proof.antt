@@ -14,10 +14,31 @@
 --
 -- A change of the body, or of a clause of `write` or `text_if_any`, changes the steps above that name it: `rt check` then stops at the first
 -- step that does not fit, and prints what is held there, which is to be compared with the list in brackets before it. A new version of the kit may
--- rename or change what comes from its libraries, by way of `proofs/StandardFacts.antt`, or hand over the resources in another order.
+-- rename or change what is imported from it, or hand over the resources in another order.
 use Rattle.std.proofs.lemmas.Grind.{common_steps}
 use Rattle.std.proofs.lemmas.Str.{IsUtf8-from_ascii}
-use Rattle.humantime.proofs.StandardFacts.{IsUtf8, IfSome, IfNone, take, option_map, Array, u8, ◌≡◌, ℕ, ◌≤◌, List, [], ◌∷◌, refl, ◌∙◌, Bor, arith, proved, id⊢, emp, flft, named, fact, fact_i, tables, ‵, raw, ◌⊛◌, ◌$◌, ◌∵◌, !, qed, by, move, keep, use0, use1, use2, split, join, fjoin, suffices, frame, group, enter, addr, stop, no_more, and_then, returns, alloc_all, pass_all, free_all, look_at, get, through, sets, lands_as, RefOf, yes, no, lone, mut_vals, shr_vals, mut_Tells, shr_Tells, plain, type_at, nothing, heard, calls_at, alive, triple_of, Stays, stay_dropped, Goes-dropped, Goes-spent_ref, ends_at, framed}
+use Rattle.std.proofs.Common.{IsUtf8, IfSome, IfNone, take, option_map, ◌≡◌, ℕ, ◌≤◌, List, [], ◌∷◌, refl, ◌∙◌, Bor, arith}
+use Rattle.std.proofs.raw_atomic.Walks.{proved}
+use Rattle.std.specs.Borrow.{Array, u8}
+use base.Fml.{flft}
+use base.Logic.{id⊢, emp}
+use contract.Monad.{fact, fact_i}
+use contract.Running.{tables}
+use denote.Builtin.{RefOf}
+use denote.Exit.{yes, no}
+use denote.Memory.{lone}
+use denote.Ref.{mut_vals, shr_vals, mut_Tells, shr_Tells}
+use denote.Signature.{plain, type_at}
+use denote.Steps.{nothing, heard}
+use denote.Triple.Call.{calls_at}
+use denote.Triple.Entry.{alive}
+use denote.Triple.Spec.{triple_of}
+use denote.Triple.Table.{framed}
+use denote.Triple.Walked.{Stays, stay_dropped, Goes-dropped, Goes-spent_ref, ends_at}
+use mir.Syntax.{named}
+use types.ByLocal.{alloc_all, pass_all, free_all, look_at, get, through, sets, lands_as}
+use types.Kit.{‵, raw, ◌⊛◌, ◌$◌, ◌∵◌, !, qed, by, move, keep, use0, use1, use2, split, join, fjoin, suffices, frame, group}
+use types.Run.{enter, addr, stop, no_more, and_then, returns}
 use Rattle.humantime.proofs.PrintedTimestamps.{printed_ascii, text_answered}
 use Rattle.humantime.proofs.Theorems.{printed_read}
 use Rattle.humantime.proofs.Buffers.{holds, returned, hears, shares_last, tells}

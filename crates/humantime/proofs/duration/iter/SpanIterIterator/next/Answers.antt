@@ -1,4 +1,6 @@
-use Rattle.humantime.proofs.Prelude.{nat_tests, common_steps, ◌≡◌, false, length, ne_eqb, refl, arith, ◌==◌}
+use Rattle.std.proofs.Common.{◌≡◌, false, length, ne_eqb, refl, arith, ◌==◌}
+use Rattle.std.proofs.lemmas.Bool.Decides.{nat_tests}
+use Rattle.std.proofs.lemmas.Grind.{common_steps}
 use Rattle.humantime.proofs.Items.{step_shorter, step_goes}
 use Rattle.humantime.proofs.duration.iter.SpanIterIterator.next.Goals as goal
 
