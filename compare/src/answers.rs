@@ -26,7 +26,12 @@ fn duration_of(answer: &Answer) -> Result<Duration, DurationError> {
         0 if nanos < 1_000_000_000 => Ok(Duration::new(value, nanos)),
         1 => Err(DurationError::InvalidCharacter(start)),
         2 => Err(DurationError::NumberExpected(start)),
-        3 => Err(DurationError::UnknownUnit { start, end, unit: String::from_utf8_lossy(answer.unit).into(), value }),
+        3 => Err(DurationError::UnknownUnit {
+            start,
+            end,
+            unit: String::from_utf8_lossy(answer.unit).into(),
+            value,
+        }),
         4 => Err(DurationError::NumberOverflow),
         5 => Err(DurationError::Empty),
         _ => panic!("no result of a parser of durations"),
@@ -54,10 +59,20 @@ unsafe extern "C" {
     pub safe fn library_call_weak<'a>(text: &&'a str, place: &mut Answer<'a>);
     safe fn library_message(parser: u32, text: &&str, place: &mut [u8; 256]) -> usize;
     pub safe fn library_print_duration(secs: u64, nanos: u32, place: &mut [u8; 64]) -> usize;
-    pub safe fn library_print_moment(printer: u32, secs: i64, nanos: u32, place: &mut [u8; 30]) -> usize;
+    pub safe fn library_print_moment(
+        printer: u32,
+        secs: i64,
+        nanos: u32,
+        place: &mut [u8; 30],
+    ) -> usize;
     pub safe fn library_display_duration(secs: u64, nanos: u32, place: &mut [u8; 256]) -> usize;
     pub safe fn library_display_nanos(secs: i64, nanos: u32, place: &mut [u8; 256]) -> usize;
-    pub safe fn library_run(command: &&str, text: &&str, out: &mut [u8; 128], err: &mut [u8; 128]) -> u8;
+    pub safe fn library_run(
+        command: &&str,
+        text: &&str,
+        out: &mut [u8; 128],
+        err: &mut [u8; 128],
+    ) -> u8;
 }
 
 /// Returns the text that a call leaves at the front of its buffer; the call returns its length.
@@ -87,12 +102,27 @@ pub struct Parser<T, E> {
 /// The crate's result, or the message of its panic.
 pub type Caught<T, E> = Result<Result<T, E>, String>;
 
-pub const DURATION: Parser<Duration, DurationError> =
-    Parser { name: "duration", number: 0, by_crate: parse_duration, by_library: library_read_duration, result_of: duration_of };
-pub const STRICT: Parser<SystemTime, TimestampError> =
-    Parser { name: "timestamp, strict", number: 1, by_crate: parse_rfc3339, by_library: library_read_strict, result_of: moment_of };
-pub const WEAK: Parser<SystemTime, TimestampError> =
-    Parser { name: "timestamp, weak", number: 2, by_crate: parse_rfc3339_weak, by_library: library_read_weak, result_of: moment_of };
+pub const DURATION: Parser<Duration, DurationError> = Parser {
+    name: "duration",
+    number: 0,
+    by_crate: parse_duration,
+    by_library: library_read_duration,
+    result_of: duration_of,
+};
+pub const STRICT: Parser<SystemTime, TimestampError> = Parser {
+    name: "timestamp, strict",
+    number: 1,
+    by_crate: parse_rfc3339,
+    by_library: library_read_strict,
+    result_of: moment_of,
+};
+pub const WEAK: Parser<SystemTime, TimestampError> = Parser {
+    name: "timestamp, weak",
+    number: 2,
+    by_crate: parse_rfc3339_weak,
+    by_library: library_read_weak,
+    result_of: moment_of,
+};
 
 impl<T, E> Parser<T, E> {
     pub fn by_crate(&self, text: &str) -> Caught<T, E> {
@@ -111,7 +141,8 @@ impl<T, E> Parser<T, E> {
     }
 }
 
-/// The printers of moments: the number of each in `exports.rt.txt`, its name, and the crate's function.
+/// The printers of moments: the number of each in `exports.rt.txt`, its name, and the crate's
+/// function.
 pub const PRINTERS: [(u32, &str, fn(SystemTime) -> Rfc3339Timestamp); 5] = [
     (0, "format_rfc3339", format_rfc3339),
     (1, "format_rfc3339_seconds", format_rfc3339_seconds),

@@ -1,7 +1,8 @@
 //! Times the crate and the library in one process.
 //!
-//! Each row is one call of each side, which is not inlined and leaves its result in memory of the caller. The sides are called in turn, in
-//! batches, and the side that goes first changes with each round.
+//! Each row is one call of each side, which is not inlined and leaves its result in memory of the
+//! caller. The sides are called in turn, in batches, and the side that goes first changes with each
+//! round.
 
 mod answers;
 mod texts;
@@ -14,15 +15,20 @@ use std::hint::black_box;
 use std::time::{Duration, Instant};
 use texts::Random;
 
-// Moves the code after it by this number of bytes, so that several builds differ in their layout. The linker keeps it, because `main` names
-// it.
-global_asm!(".globl bench_padding", "bench_padding:", concat!(".space ", env!("BENCH_PADDING"), ", 0x90"));
+// Moves the code after it by this number of bytes, so that several builds differ in their layout.
+// The linker keeps it, because `main` names it.
+global_asm!(
+    ".globl bench_padding",
+    "bench_padding:",
+    concat!(".space ", env!("BENCH_PADDING"), ", 0x90")
+);
 
 unsafe extern "C" {
     fn bench_padding();
 }
 
-/// Parses a text by a function of the crate. Drops the previous result, and writes the new one in place, without a copy.
+/// Parses a text by a function of the crate. Drops the previous result, and writes the new one in
+/// place, without a copy.
 #[inline(never)]
 fn crate_read<T>(parse: impl Fn(&str) -> T, text: &&str, place: &mut T) {
     unsafe {
@@ -44,7 +50,8 @@ fn crate_print<T, F: Display>(format: impl Fn(T) -> F, value: T, place: &mut Str
     let _ = write!(place, "{}", format(value));
 }
 
-/// What a program that uses the crate does for a command and its text: it parses the text, and prints the result as a line.
+/// What a program that uses the crate does for a command and its text: it parses the text, and
+/// prints the result as a line.
 #[inline(never)]
 fn crate_run(command: &str, text: &str, place: &mut String) {
     place.clear();
@@ -57,15 +64,19 @@ fn crate_run(command: &str, text: &str, place: &mut String) {
 }
 
 #[inline(always)]
-fn write_line<T, F: Display>(place: &mut String, result: Result<T, impl Display>, format: impl Fn(T) -> F) -> fmt::Result {
+fn write_line<T, F: Display>(
+    place: &mut String,
+    result: Result<T, impl Display>,
+    format: impl Fn(T) -> F,
+) -> fmt::Result {
     match result {
         Ok(value) => writeln!(place, "{}", format(value)),
         Err(error) => writeln!(place, "{error}"),
     }
 }
 
-/// Returns the same reference, about which the compiler knows nothing. `black_box` would pass it through memory, which costs a call as much
-/// as fifteen instructions.
+/// Returns the same reference, about which the compiler knows nothing. `black_box` would pass it
+/// through memory, which costs a call as much as fifteen instructions.
 #[inline(always)]
 fn hidden<T>(reference: &T) -> &T {
     let mut pointer: *const T = reference;
@@ -86,8 +97,9 @@ fn batch<T>(calls: usize, place: &mut T, mut call: impl FnMut(&mut T)) -> f64 {
     start.elapsed().as_nanos() as f64
 }
 
-/// Times a row: a call of the crate and a call of the library, each with the memory where it leaves its result. Prints the kind and the name
-/// of the row, the smallest time of each side and the median of the ratios, separated by tabs.
+/// Times a row: a call of the crate and a call of the library, each with the memory where it leaves
+/// its result. Prints the kind and the name of the row, the smallest time of each side and the
+/// median of the ratios, separated by tabs.
 fn race<C, L>(
     (kind, name): (&str, &str),
     (mut crate_place, mut by_crate): (C, impl FnMut(&mut C)),
@@ -108,14 +120,20 @@ fn race<C, L>(
         let taken = of_crate(calls);
         [taken, early.unwrap_or_else(|| of_library(calls))]
     }));
-    let [least_of_crate, least_of_library] = [0, 1].map(|side| times.iter().map(|pair| pair[side]).fold(f64::MAX, f64::min) / calls as f64);
-    let mut ratios = Vec::from_iter(times.iter().map(|[of_crate, of_library]| of_library / of_crate));
+    let [least_of_crate, least_of_library] = [0, 1]
+        .map(|side| times.iter().map(|pair| pair[side]).fold(f64::MAX, f64::min) / calls as f64);
+    let mut ratios =
+        Vec::from_iter(times.iter().map(|[of_crate, of_library]| of_library / of_crate));
     ratios.sort_by(f64::total_cmp);
-    println!("{kind}\t{name}\t{least_of_crate:.2}\t{least_of_library:.2}\t{:.4}", ratios[rounds / 2]);
+    println!(
+        "{kind}\t{name}\t{least_of_crate:.2}\t{least_of_library:.2}\t{:.4}",
+        ratios[rounds / 2]
+    );
 }
 
-/// Returns a copy of the text that begins as many bytes after a multiple of 64 as the code of this build does: a read across two cache
-/// lines takes longer, and no row should depend on the position of its literal.
+/// Returns a copy of the text that begins as many bytes after a multiple of 64 as the code of this
+/// build does: a read across two cache lines takes longer, and no row should depend on the position
+/// of its literal.
 fn placed(text: &str) -> &'static str {
     let offset = env!("BENCH_PADDING").parse::<usize>().expect("a number of bytes") % 64;
     let bytes = vec![0; text.len() + 128].leak();
@@ -133,11 +151,19 @@ fn race_reading<T: PartialEq + Debug, E: PartialEq + Debug, R>(
     by_library: impl Fn(&&'static str, &mut Answer<'static>),
 ) {
     let (answer, text) = (parser.by_library(text), placed(text));
-    let shown = if text.len() > 100 { format!("{:?}.. of {} bytes", &text[..9], text.len()) } else { format!("{text:?}") };
+    let shown = if text.len() > 100 {
+        format!("{:?}.. of {} bytes", &text[..9], text.len())
+    } else {
+        format!("{text:?}")
+    };
     assert_eq!(parser.by_crate(text).as_ref(), Ok(&answer), "{shown}");
     let noun = parser.name.split(',').next().expect("a word");
     let verb = if answer.is_ok() { "parse" } else { "reject" };
-    let kind = if text.len() > 100 { "parse or reject a long string".into() } else { format!("{verb} a {noun}{how}") };
+    let kind = if text.len() > 100 {
+        "parse or reject a long string".into()
+    } else {
+        format!("{verb} a {noun}{how}")
+    };
     race(
         (&kind, &format!("{verb} {shown}, {}{how}", parser.name)),
         (parse("0"), |place| crate_read(&parse, hidden(&text), place)),
@@ -164,7 +190,8 @@ fn race_random<T: PartialEq + Debug, E: PartialEq + Debug, R>(
     );
 }
 
-/// Returns the text of a duration below 2^34 seconds, short ones as often as long ones, and half of them of whole seconds.
+/// Returns the text of a duration below 2^34 seconds, short ones as often as long ones, and half of
+/// them of whole seconds.
 fn random_duration(random: &mut Random) -> String {
     let most = 1 << (1 + random.below(34));
     let nanos = if random.percent(50) { random.nanos() } else { 0 };
@@ -178,12 +205,18 @@ fn random_moment(random: &mut Random) -> String {
     format(moment(random.below(253_402_300_800) as i64, random.nanos())).to_string()
 }
 
-/// Times the parsers, also called by functions that are not inlined: `read` and `call` are the exports of the two.
+/// Times the parsers, also called by functions that are not inlined: `read` and `call` are the
+/// exports of the two.
 macro_rules! race_parser {
     ($parser:ident, $texts:expr, $random:ident, $parse:ident, $read:ident, $call:ident) => {
         for text in $texts {
             race_reading((&$parser, ""), text, $parse, |text, place| $read(text, place));
-            race_reading((&$parser, ", not inlined"), text, |text| called($parse, text), |text, place| $call(text, place));
+            race_reading(
+                (&$parser, ", not inlined"),
+                text,
+                |text| called($parse, text),
+                |text, place| $call(text, place),
+            );
         }
         race_random(&$parser, $random, $parse, |text, place| $read(text, place));
     };
@@ -192,29 +225,50 @@ macro_rules! race_parser {
 fn texts_parsed() {
     let greatest = format_duration(Duration::MAX).to_string();
     let durations = [
-        "2h 37min", "1.234s 1.345ms 1.678us 1ns", "15days 2min 2s", &greatest, "12\u{3000}s 163µs", "163µs", "0",
-        "100000000000000000us 1foo", "1foo~", "10nights", "12 34", "1h x", "20000000000000000000s",
+        "2h 37min", "1.234s 1.345ms 1.678us 1ns", "15days 2min 2s", &greatest, "12\u{3000}s 163µs",
+        "163µs", "0", "100000000000000000us 1foo", "1foo~", "10nights", "12 34", "1h x",
+        "20000000000000000000s",
     ];
     let timestamps = [
-        "2018-02-14T00:28:07Z", "2018-02-14T00:28:07.133Z", "2018-02-14T00:28:07.123456789Z", "2018-02-14T00:28:07+00:00",
-        "2018-02-14t00:28:07Z", "2018-02-1xT00:28:07Z", "2018-02-30T00:28:07Z", "2018-02-14T00:28:07.13x3Z",
+        "2018-02-14T00:28:07Z", "2018-02-14T00:28:07.133Z", "2018-02-14T00:28:07.123456789Z",
+        "2018-02-14T00:28:07+00:00", "2018-02-14t00:28:07Z", "2018-02-1xT00:28:07Z",
+        "2018-02-30T00:28:07Z", "2018-02-14T00:28:07.13x3Z",
     ];
-    race_parser!(DURATION, durations, random_duration, parse_duration, library_read_duration, library_call_duration);
-    race_parser!(STRICT, timestamps, random_moment, parse_rfc3339, library_read_strict, library_call_strict);
-    race_parser!(WEAK, timestamps, random_moment, parse_rfc3339_weak, library_read_weak, library_call_weak);
+    race_parser!(
+        DURATION, durations, random_duration, parse_duration, library_read_duration,
+        library_call_duration
+    );
+    race_parser!(
+        STRICT, timestamps, random_moment, parse_rfc3339, library_read_strict, library_call_strict
+    );
+    race_parser!(
+        WEAK, timestamps, random_moment, parse_rfc3339_weak, library_read_weak, library_call_weak
+    );
     let size = 1_048_575;
     let spans = "1h ".repeat(size / 3);
-    let long = [" ".repeat(size), "0".repeat(size), format!("1{}", "s".repeat(size)), format!("{spans}~"), spans];
+    let long = [
+        " ".repeat(size),
+        "0".repeat(size),
+        format!("1{}", "s".repeat(size)),
+        format!("{spans}~"),
+        spans,
+    ];
     for text in long {
-        race_reading((&DURATION, ""), &text, parse_duration, |text, place| library_read_duration(text, place));
+        race_reading((&DURATION, ""), &text, parse_duration, |text, place| {
+            library_read_duration(text, place)
+        });
     }
     let fraction = format!("2018-02-14T00:28:07.{}Z", "1".repeat(size));
-    race_reading((&STRICT, ""), &fraction, parse_rfc3339, |text, place| library_read_strict(text, place));
-    race_reading((&WEAK, ""), &fraction, parse_rfc3339_weak, |text, place| library_read_weak(text, place));
+    race_reading((&STRICT, ""), &fraction, parse_rfc3339, |text, place| {
+        library_read_strict(text, place)
+    });
+    race_reading((&WEAK, ""), &fraction, parse_rfc3339_weak, |text, place| {
+        library_read_weak(text, place)
+    });
 }
 
-/// Times both sides writing a text, which has to be the same: the crate to a `String`, the library to a buffer. The crate prints `us`
-/// without its feature `mu`.
+/// Times both sides writing a text, which has to be the same: the crate to a `String`, the library
+/// to a buffer. The crate prints `us` without its feature `mu`.
 fn race_writing<const N: usize>(
     row: (&str, &str),
     mut by_crate: impl FnMut(&mut String),
@@ -228,38 +282,59 @@ fn race_writing<const N: usize>(
 }
 
 fn durations_printed() {
-    for (secs, nanos) in [(9_420, 0), (1_296_122, 0), (63_115_320, 12_000), (u64::MAX, 999_999_999), (0, 0)] {
-        let (name, duration) = (format!("print {secs} s and {nanos} ns"), Duration::new(secs, nanos));
-        let by_crate = |place: &mut String| crate_print(format_duration, black_box(duration), place);
-        race_writing(("print a duration", &name), by_crate, |place| library_print_duration(black_box(secs), black_box(nanos), place));
+    for (secs, nanos) in
+        [(9_420, 0), (1_296_122, 0), (63_115_320, 12_000), (u64::MAX, 999_999_999), (0, 0)]
+    {
+        let (name, duration) =
+            (format!("print {secs} s and {nanos} ns"), Duration::new(secs, nanos));
+        let by_crate =
+            |place: &mut String| crate_print(format_duration, black_box(duration), place);
+        race_writing(("print a duration", &name), by_crate, |place| {
+            library_print_duration(black_box(secs), black_box(nanos), place)
+        });
         let row = ("print a duration by `Display`", &*(name + " by `Display`"));
-        race_writing(row, by_crate, |place| library_display_duration(black_box(secs), black_box(nanos), place));
+        race_writing(row, by_crate, |place| {
+            library_display_duration(black_box(secs), black_box(nanos), place)
+        });
     }
 }
 
 fn timestamps_printed() {
     let (secs, nanos) = (1_518_563_287, 123_456_789);
     let time = moment(secs, nanos);
-    let in_seconds = |place: &mut String| crate_print(format_rfc3339_seconds, black_box(time), place);
+    let in_seconds =
+        |place: &mut String| crate_print(format_rfc3339_seconds, black_box(time), place);
     let in_nanos = |place: &mut String| crate_print(format_rfc3339_nanos, black_box(time), place);
     let row = ("print a timestamp", "print a timestamp in seconds");
-    race_writing(row, in_seconds, |place| library_print_moment(1, black_box(secs), black_box(nanos), place));
+    race_writing(row, in_seconds, |place| {
+        library_print_moment(1, black_box(secs), black_box(nanos), place)
+    });
     let row = ("print a timestamp", "print a timestamp in nanoseconds");
-    race_writing(row, in_nanos, |place| library_print_moment(4, black_box(secs), black_box(nanos), place));
+    race_writing(row, in_nanos, |place| {
+        library_print_moment(4, black_box(secs), black_box(nanos), place)
+    });
     let row = ("print a timestamp by `Display`", "print a timestamp in nanoseconds by `Display`");
-    race_writing(row, in_nanos, |place| library_display_nanos(black_box(secs), black_box(nanos), place));
+    race_writing(row, in_nanos, |place| {
+        library_display_nanos(black_box(secs), black_box(nanos), place)
+    });
 }
 
 /// Times the program on a command and its text. An error message is written to the other output.
 fn race_run(command: &'static str, text: &'static str) {
     let by_crate = |place: &mut String| crate_run(black_box(command), black_box(text), place);
-    let by_library = |[out, err]: &mut [[u8; 128]; 2]| _ = library_run(hidden(&command), hidden(&text), out, err);
+    let by_library = |[out, err]: &mut [[u8; 128]; 2]| {
+        _ = library_run(hidden(&command), hidden(&text), out, err)
+    };
     let (mut crate_place, mut place) = (String::with_capacity(256), [[0; 128]; 2]);
     by_crate(&mut crate_place);
     by_library(&mut place);
     let told = String::from_utf8_lossy(place.as_flattened()).replace('\0', "");
     assert_eq!(told.replace('µ', "u"), crate_place.replace('µ', "u"), "{command} {text}");
-    race(("the program's `run`", &format!("`{command}` of `{text}`")), (crate_place, by_crate), (place, by_library));
+    race(
+        ("the program's `run`", &format!("`{command}` of `{text}`")),
+        (crate_place, by_crate),
+        (place, by_library),
+    );
 }
 
 fn main() {

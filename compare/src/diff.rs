@@ -1,5 +1,5 @@
-//! Compares the results of the library with those of the crate, call by call. They have to be the same, except for the differences that are
-//! listed.
+//! Compares the results of the library with those of the crate, call by call. They have to be the
+//! same, except for the differences that are listed.
 
 mod answers;
 mod explained;
@@ -19,8 +19,12 @@ const DAY: u64 = 86_400;
 const END: i64 = 253_402_300_800;
 
 /// Parses a text on both sides. The rows are those that explain a difference.
-fn read<T, E>(counts: &mut Counts, parser: &Parser<T, E>, text: &str, rows_of: impl FnOnce(&Caught<T, E>, &Result<T, E>) -> Vec<Row>)
-where
+fn read<T, E>(
+    counts: &mut Counts,
+    parser: &Parser<T, E>,
+    text: &str,
+    rows_of: impl FnOnce(&Caught<T, E>, &Result<T, E>) -> Vec<Row>,
+) where
     T: PartialEq + Debug,
     E: PartialEq + Debug + Display,
 {
@@ -28,23 +32,31 @@ where
     let (by_crate, by_library) = (parser.by_crate(text), parser.by_library(text));
     if by_crate.as_ref() != Ok(&by_library) {
         let rows = rows_of(&by_crate, &by_library);
-        counts.differs(rows, || format!("{} {text:?}: the crate {by_crate:?}, the library {by_library:?}", parser.name));
+        counts.differs(rows, || {
+            format!("{} {text:?}: the crate {by_crate:?}, the library {by_library:?}", parser.name)
+        });
     } else if let Err(error) = by_library {
         let messages = (error.to_string(), parser.message_by_library(text));
         if messages.0 != messages.1 && messages.0.len() <= 256 {
-            counts.differs(Vec::new(), || format!("messages of {} {text:?}: {messages:?}", parser.name));
+            counts.differs(Vec::new(), || {
+                format!("messages of {} {text:?}: {messages:?}", parser.name)
+            });
         }
     }
 }
 
 fn read_duration(counts: &mut Counts, text: &str) {
-    read(counts, &DURATION, text, |_, by_library| explained::duration(text, by_library).unwrap_or_default());
+    read(counts, &DURATION, text, |_, by_library| {
+        explained::duration(text, by_library).unwrap_or_default()
+    });
 }
 
 /// Parses a timestamp with both parsers on both sides.
 fn read_moment(counts: &mut Counts, text: &str) {
     for parser in [STRICT, WEAK] {
-        read(counts, &parser, text, |by_crate, by_library| explained::moment(text, by_crate, by_library).into_iter().collect());
+        read(counts, &parser, text, |by_crate, by_library| {
+            explained::moment(text, by_crate, by_library).into_iter().collect()
+        });
     }
 }
 
@@ -73,11 +85,19 @@ fn print_moment(counts: &mut Counts, secs: i64, nanos: u32) {
 }
 
 /// Compares two printed texts, whose difference this row lists, if there is one.
-fn print(counts: &mut Counts, row: Option<Row>, by_crate: &Result<String, String>, by_library: &String, value: impl FnOnce() -> String) {
+fn print(
+    counts: &mut Counts,
+    row: Option<Row>,
+    by_crate: &Result<String, String>,
+    by_library: &String,
+    value: impl FnOnce() -> String,
+) {
     counts.case();
     if by_crate.as_ref() != Ok(by_library) {
         let rows = row.into_iter().collect();
-        counts.differs(rows, || format!("{}: the crate {by_crate:?}, the library {by_library:?}", value()));
+        counts.differs(rows, || {
+            format!("{}: the crate {by_crate:?}, the library {by_library:?}", value())
+        });
     }
 }
 
@@ -101,24 +121,36 @@ fn durations_parsed(counts: &mut Counts) {
     durations(counts, "each word with a letter removed, inserted or replaced", |to| {
         words().for_each(|(word, _)| variants(word, &letters, &mut |word| to(&format!("1{word}"))));
     });
-    durations(counts, "each character of the first plane after a number, and between two digits", |to| {
-        for character in '\0'..='\u{ffff}' {
-            to(&format!("1{character}s"));
-            to(&format!("1 {character} 2s"));
-        }
-    });
+    durations(
+        counts,
+        "each character of the first plane after a number, and between two digits",
+        |to| {
+            for character in '\0'..='\u{ffff}' {
+                to(&format!("1{character}s"));
+                to(&format!("1 {character} 2s"));
+            }
+        },
+    );
     let mut random = Random(1);
-    durations(counts, "each word at its limit, with fractions, alone and after another span", words_at_their_limits);
+    durations(
+        counts,
+        "each word at its limit, with fractions, alone and after another span",
+        words_at_their_limits,
+    );
     durations(counts, "random spans around each limit, and with an error", |to| {
         (0..12_000_000).for_each(|_| to(&random_duration(&mut random)));
     });
-    durations(counts, "sums around the greatest duration", |to| (0..3_000_000).for_each(|_| to(&random_sum_at_limit(&mut random))));
+    durations(counts, "sums around the greatest duration", |to| {
+        (0..3_000_000).for_each(|_| to(&random_sum_at_limit(&mut random)))
+    });
 }
 
 fn durations_printed(counts: &mut Counts) {
     let nanos = [0, 1, 999, 1_000, 1_001, 999_999, 1_000_000, 1_000_001, 999_999_999];
     counts.begin("durations printed: around multiples of each unit; their texts parsed");
-    for size in [1, 60, 3_600, DAY, 604_800, 2_630_016, 31_557_600, 31_557_600_000_000, u64::MAX / 31] {
+    for size in
+        [1, 60, 3_600, DAY, 604_800, 2_630_016, 31_557_600, 31_557_600_000_000, u64::MAX / 31]
+    {
         for (times, near) in (0..2_000u64).flat_map(|times| [0, 1, 2].map(|near| (times, near))) {
             let secs = size.saturating_mul(times).saturating_add(near).saturating_sub(1);
             print_duration(counts, secs, nanos[(times % 9) as usize]);
@@ -136,7 +168,9 @@ fn durations_printed(counts: &mut Counts) {
 
 fn timestamps_parsed(counts: &mut Counts) {
     timestamps(counts, "each month, day and year, in and out of bounds", |to| {
-        for year in (0..10_000).filter(|year| *year < 2 || (1960..2110).contains(year) || year % 100 < 5 || *year > 9_990) {
+        for year in (0..10_000).filter(|year| {
+            *year < 2 || (1960..2110).contains(year) || year % 100 < 5 || *year > 9_990
+        }) {
             for (month, day) in (0..14).flat_map(|month| (0..33).map(move |day| (month, day))) {
                 to(&format!("{year:04}-{month:02}-{day:02}T00:00:00Z"));
             }
@@ -148,15 +182,25 @@ fn timestamps_parsed(counts: &mut Counts) {
             to(&format!("2016-12-31T{hour:02}:{minute:02}:{second:02}Z"));
         }
     });
-    timestamps(counts, "all endings of up to 6 of 11 characters, and of up to 5 after a fraction", |to| {
-        let ends = ['Z', '+', '0', '1', ':', '.', '-', 'z', ' ', '9', 'é'];
-        all_texts("1970-01-01T00:00:00", &ends, 6, to);
-        for front in ["1970-01-01T00:00:00.", "1970-01-01T00:00:00.5", "9999-12-31 23:59:60.999999999"] {
-            all_texts(front, &ends, 5, to);
-            all_texts(&format!("{front}+"), &ends, 3, &mut |text| to(&format!("{text}:00")));
-        }
-    });
-    timestamps(counts, "one character replaced by each of 256, two by each two of 14", spoiled_timestamps);
+    timestamps(
+        counts,
+        "all endings of up to 6 of 11 characters, and of up to 5 after a fraction",
+        |to| {
+            let ends = ['Z', '+', '0', '1', ':', '.', '-', 'z', ' ', '9', 'é'];
+            all_texts("1970-01-01T00:00:00", &ends, 6, to);
+            for front in
+                ["1970-01-01T00:00:00.", "1970-01-01T00:00:00.5", "9999-12-31 23:59:60.999999999"]
+            {
+                all_texts(front, &ends, 5, to);
+                all_texts(&format!("{front}+"), &ends, 3, &mut |text| to(&format!("{text}:00")));
+            }
+        },
+    );
+    timestamps(
+        counts,
+        "one character replaced by each of 256, two by each two of 14",
+        spoiled_timestamps,
+    );
     let mut random = Random(3);
     timestamps(counts, "random parts, fractions and endings, and with an error", |to| {
         (0..4_000_000).for_each(|_| to(&random_stamp(&mut random)));
@@ -170,9 +214,11 @@ fn timestamps_printed(counts: &mut Counts) {
         let nanos = if random.percent(50) { 0 } else { random.nanos() };
         print_moment(counts, day * DAY as i64 + random.below(DAY) as i64, nanos);
     }
-    counts.begin("timestamps printed: each second of a day, and random moments; their texts parsed");
+    counts
+        .begin("timestamps printed: each second of a day, and random moments; their texts parsed");
     (0..DAY as i64).for_each(|second| print_moment(counts, 1_330_473_600 + second, 0));
-    (0..500_000).for_each(|_| print_moment(counts, random.below(END as u64) as i64, random.nanos()));
+    (0..500_000)
+        .for_each(|_| print_moment(counts, random.below(END as u64) as i64, random.nanos()));
     counts.begin("timestamps printed: around and outside 1970 to 9999");
     for near in 0..2_000 {
         for nanos in [0, 1, 999_999_999] {
@@ -184,17 +230,24 @@ fn timestamps_printed(counts: &mut Counts) {
     }
     counts.begin("timestamps printed: 0 to 999 nanoseconds, microseconds and milliseconds, and 10,000 over the second");
     let few = (0..1_000).flat_map(|part| [part, part * 1_000, part * 1_000_000]);
-    few.chain((0..10_000).map(|part| part * 99_991)).for_each(|nanos| print_moment(counts, 1_330_473_600, nanos));
+    few.chain((0..10_000).map(|part| part * 99_991))
+        .for_each(|nanos| print_moment(counts, 1_330_473_600, nanos));
 }
 
 fn main() -> ExitCode {
     let folder = std::env::args().nth(1).expect("the crate's folder");
     std::panic::set_hook(Box::new(|_| {}));
     let (mut counts, found) = (Counts::default(), texts_of_crate(Path::new(&folder)));
-    durations(&mut counts, "the texts of the crate's sources and tests, and those near them", |to| {
-        found.iter().for_each(|text| variants(text, &HOSTILE, to));
+    durations(
+        &mut counts,
+        "the texts of the crate's sources and tests, and those near them",
+        |to| {
+            found.iter().for_each(|text| variants(text, &HOSTILE, to));
+        },
+    );
+    timestamps(&mut counts, "the same texts, and those near them", |to| {
+        found.iter().for_each(|text| variants(text, &STAMP, to))
     });
-    timestamps(&mut counts, "the same texts, and those near them", |to| found.iter().for_each(|text| variants(text, &STAMP, to)));
     durations_parsed(&mut counts);
     durations_printed(&mut counts);
     timestamps_parsed(&mut counts);

@@ -7,13 +7,17 @@ use std::path::Path;
 use std::sync::LazyLock;
 
 /// Characters that end a duration's text, continue it or make it invalid.
-pub const HOSTILE: [char; 18] = ['0', '1', '9', '.', ' ', '\u{3000}', 's', 'h', 'n', 'u', 'M', 'µ', 'μ', '~', '-', '\0', 'é', '\u{200b}'];
+pub const HOSTILE: [char; 18] = [
+    '0', '1', '9', '.', ' ', '\u{3000}', 's', 'h', 'n', 'u', 'M', 'µ', 'μ', '~', '-', '\0', 'é',
+    '\u{200b}',
+];
 
 /// Fewer of these, for longer texts.
 pub const FEWER: [char; 10] = ['0', '1', '.', ' ', 's', 'n', 'm', 'μ', '~', 'h'];
 
 /// Characters that end a timestamp's text, continue it or make it invalid.
-pub const STAMP: [char; 14] = ['0', '1', '6', '9', 'Z', 'z', 'T', '+', '-', ':', '.', ' ', 'é', '\u{ff11}'];
+pub const STAMP: [char; 14] =
+    ['0', '1', '6', '9', 'Z', 'z', 'T', '+', '-', ':', '.', ' ', 'é', '\u{ff11}'];
 
 /// A generator of pseudorandom numbers, the same in each run.
 pub struct Random(pub u64);
@@ -64,7 +68,8 @@ pub fn all_texts(text: &str, alphabet: &[char], most: usize, to: &mut dyn FnMut(
     }
 }
 
-/// Passes the prefixes of the text, and the text with one character removed, replaced, or inserted before it or at the end.
+/// Passes the prefixes of the text, and the text with one character removed, replaced, or inserted
+/// before it or at the end.
 pub fn variants(text: &str, alphabet: &[char], to: &mut dyn FnMut(&str)) {
     to(text);
     alphabet.iter().for_each(|other| to(&format!("{text}{other}")));
@@ -100,7 +105,10 @@ pub fn texts_of_crate(folder: &Path) -> BTreeSet<String> {
         if path.is_dir() && !path.ends_with("target") {
             found.extend(texts_of_crate(&path));
         } else if path.extension().is_some_and(|ending| ending == "rs") {
-            std::fs::read_to_string(&path).expect("a text").lines().for_each(|line| quoted(line, &mut found));
+            std::fs::read_to_string(&path)
+                .expect("a text")
+                .lines()
+                .for_each(|line| quoted(line, &mut found));
         }
     }
     found
@@ -108,16 +116,26 @@ pub fn texts_of_crate(folder: &Path) -> BTreeSet<String> {
 
 /// Adds the string literals in the line. A literal of several lines is taken line by line.
 fn quoted(line: &str, found: &mut BTreeSet<String>) {
-    let escapes = [("\\0", "\0"), ("\\n", "\n"), ("\\r", "\r"), ("\\t", "\t"), ("\\", ""), ("\u{1}", "\"")];
+    let escapes =
+        [("\\0", "\0"), ("\\n", "\n"), ("\\r", "\r"), ("\\t", "\t"), ("\\", ""), ("\u{1}", "\"")];
     for text in line.replace("\\\"", "\u{1}").split('"').skip(1).step_by(2) {
-        found.insert(escapes.iter().fold(text.to_string(), |text, (escape, meant)| text.replace(escape, meant)));
+        found.insert(
+            escapes
+                .iter()
+                .fold(text.to_string(), |text, (escape, meant)| text.replace(escape, meant)),
+        );
     }
 }
 
 /// The words of each unit, and its length in nanoseconds or seconds, in the table of a page.
 static UNITS: LazyLock<Vec<(Vec<&str>, u64)>> = LazyLock::new(|| {
-    let rows = include_str!("../../docs/DURATIONS.md").lines().filter_map(|line| line.strip_prefix("| `")?.split_once("` | "));
-    rows.filter_map(|(words, size)| Some((words.split("` `").collect(), size.split(' ').next()?.replace(',', "").parse().ok()?))).collect()
+    let rows = include_str!("../../docs/DURATIONS.md")
+        .lines()
+        .filter_map(|line| line.strip_prefix("| `")?.split_once("` | "));
+    rows.filter_map(|(words, size)| {
+        Some((words.split("` `").collect(), size.split(' ').next()?.replace(',', "").parse().ok()?))
+    })
+    .collect()
 });
 
 /// Returns each word with the greatest number that it accepts.
@@ -125,17 +143,24 @@ pub fn words() -> impl Iterator<Item = (&'static str, u64)> {
     UNITS.iter().flat_map(|(words, size)| words.iter().map(move |word| (*word, u64::MAX / size)))
 }
 
-const NO_WORDS: [&str; 10] = ["", "S", "H", "sek", "µ", "μ", "µsec", "Ms", "monthss", "nightsandmore"];
+const NO_WORDS: [&str; 10] =
+    ["", "S", "H", "sek", "µ", "μ", "µsec", "Ms", "monthss", "nightsandmore"];
 
 const SPACES: [&str; 6] = [" ", "  ", "\t", "\u{85}", "\u{3000}", "\u{2028} "];
 
-/// Passes each word with numbers at its limit, with fractions, and alone or after another span, to a function.
+/// Passes each word with numbers at its limit, with fractions, and alone or after another span, to
+/// a function.
 pub fn words_at_their_limits(to: &mut dyn FnMut(&str)) {
-    let fractions = "|.0|.00|.5|.50|.000000001|.0000000010|.9|.3074457345|.18446744073|.0001|.25|.|. ";
+    let fractions =
+        "|.0|.00|.5|.50|.000000001|.0000000010|.9|.3074457345|.18446744073|.0001|.25|.|. ";
     let others = ["", "1ns", " 999999999ns ", "0s", "18446744073709551615s", "x", "."];
     for (word, most) in words() {
-        let numbers = (0..7).map(|near| u128::from(most) + 3 - near).chain([0, 1, 9, 10, 584, 18_446_744_073]);
-        for (number, fraction) in numbers.flat_map(|number| fractions.split('|').map(move |fraction| (number, fraction))) {
+        let numbers = (0..7)
+            .map(|near| u128::from(most) + 3 - near)
+            .chain([0, 1, 9, 10, 584, 18_446_744_073]);
+        for (number, fraction) in
+            numbers.flat_map(|number| fractions.split('|').map(move |fraction| (number, fraction)))
+        {
             for other in others {
                 to(&format!("{number}{fraction}{word}{other}"));
                 to(&format!("{other}{number}{fraction} {word}"));
@@ -144,19 +169,23 @@ pub fn words_at_their_limits(to: &mut dyn FnMut(&str)) {
     }
 }
 
-/// Passes a few timestamps with each character replaced by each of many, and each two of them by each two of a few, to a function.
+/// Passes a few timestamps with each character replaced by each of many, and each two of them by
+/// each two of a few, to a function.
 pub fn spoiled_timestamps(to: &mut dyn FnMut(&str)) {
     let many: Vec<char> = (0..256).filter_map(char::from_u32).collect();
     for text in [
-        "2018-02-14T00:28:07Z", "2018-02-14 00:28:07", "2016-12-31T23:59:60+00:00", "2000-02-29T12:34:56.789Z",
-        "1970-01-01T00:00:00.123456789+00:00",
+        "2018-02-14T00:28:07Z", "2018-02-14 00:28:07", "2016-12-31T23:59:60+00:00",
+        "2000-02-29T12:34:56.789Z", "1970-01-01T00:00:00.123456789+00:00",
     ] {
         variants(text, &many, to);
         let letters: Vec<char> = text.chars().collect();
-        for (first, second) in (0..letters.len()).flat_map(|first| (0..first).map(move |second| (first, second))) {
+        for (first, second) in
+            (0..letters.len()).flat_map(|first| (0..first).map(move |second| (first, second)))
+        {
             for pair in 0..STAMP.len() * STAMP.len() {
                 let mut spoiled = letters.clone();
-                (spoiled[first], spoiled[second]) = (STAMP[pair / STAMP.len()], STAMP[pair % STAMP.len()]);
+                (spoiled[first], spoiled[second]) =
+                    (STAMP[pair / STAMP.len()], STAMP[pair % STAMP.len()]);
                 to(&String::from_iter(spoiled));
             }
         }
@@ -174,8 +203,10 @@ fn random_span(random: &mut Random) -> String {
         6 => random.of_any_size().to_string(),
         _ => random_digits(random, 22),
     };
-    let number: String = number.chars().map(|digit| format!("{digit}{}", random.space(1))).collect();
-    let fraction = if random.percent(45) { format!(".{}", random_fraction(random)) } else { String::new() };
+    let number: String =
+        number.chars().map(|digit| format!("{digit}{}", random.space(1))).collect();
+    let fraction =
+        if random.percent(45) { format!(".{}", random_fraction(random)) } else { String::new() };
     let space = random.space(10);
     let word = if random.percent(4) { random.of(&NO_WORDS) } else { word };
     format!("{number}{fraction}{space}{word}")
@@ -185,11 +216,14 @@ fn random_digits(random: &mut Random, most: u64) -> String {
     (0..random.below(most + 1)).map(|_| char::from(b'0' + random.below(10) as u8)).collect()
 }
 
-/// Returns the digits of a fraction: few or many, some at a limit of its product, often with trailing zeros.
+/// Returns the digits of a fraction: few or many, some at a limit of its product, often with
+/// trailing zeros.
 fn random_fraction(random: &mut Random) -> String {
     let digits = match random.below(6) {
         0 => random_digits(random, 22),
-        1 => ((u64::MAX / UNITS[random.below(UNITS.len() as u64) as usize].1).saturating_add(2) - random.below(5)).to_string(),
+        1 => ((u64::MAX / UNITS[random.below(UNITS.len() as u64) as usize].1).saturating_add(2)
+            - random.below(5))
+        .to_string(),
         2 => format!("{}{}", "0".repeat(random.below(20) as usize), random.below(10)),
         _ => random_digits(random, 9),
     };
@@ -216,7 +250,8 @@ pub fn random_sum_at_limit(random: &mut Random) -> String {
     let first = random.of_any_size();
     let second = (u64::MAX - first).saturating_add(2) - random.below(5).min(2);
     let nanos = random.of(&[0, 1, 1_000, 999_999_999, 1_000_000_000, 1_000_000_001, 500_000_000]);
-    let more = random.of(&["", " 1ns", " 999999999ns", " 1s", " 0.5s", " 500ms", " 0.999999999s", " 1000000us"]);
+    let more = random
+        .of(&["", " 1ns", " 999999999ns", " 1s", " 0.5s", " 500ms", " 0.999999999s", " 1000000us"]);
     match random.below(4) {
         0 => format!("{first}s {second}s {nanos}ns{more}"),
         1 => format!("{nanos}ns {first}s {second}s{more}"),
@@ -232,8 +267,12 @@ pub fn random_stamp(random: &mut Random) -> String {
     let (month, day) = (random.below(14), random.below(33));
     let (hour, minute, second) = (random.below(25), random.below(61), random.below(62));
     let sign = random.of(&['T', 'T', ' ', 't']);
-    let fraction = if random.percent(60) { format!(".{}", random_digits(random, 24)) } else { String::new() };
-    let end = random.of(&["Z", "Z", "", "+00:00", "+02:00", "-00:00", "+00:0", "ZZ", "z", "+00:00Z", "+abcdZ"]);
-    let text = format!("{year:04}-{month:02}-{day:02}{sign}{hour:02}:{minute:02}:{second:02}{fraction}{end}");
+    let fraction =
+        if random.percent(60) { format!(".{}", random_digits(random, 24)) } else { String::new() };
+    let end = random
+        .of(&["Z", "Z", "", "+00:00", "+02:00", "-00:00", "+00:0", "ZZ", "z", "+00:00Z", "+abcdZ"]);
+    let text = format!(
+        "{year:04}-{month:02}-{day:02}{sign}{hour:02}:{minute:02}:{second:02}{fraction}{end}"
+    );
     if random.percent(20) { spoiled(&text, &STAMP, random) } else { text }
 }

@@ -1,4 +1,5 @@
-//! Prints the options of a command line. `--help` shows their defaults as canonical strings, and a wrong value has carets under the error.
+//! Prints the options of a command line. `--help` shows their defaults as canonical strings, and a
+//! wrong value has carets under the error.
 //!
 //! The exit status is 0, or 2 for wrong arguments, or 1 if writing fails or an allocation fails.
 #![tactic(auto)]
@@ -69,7 +70,8 @@ pub fn options_of(alloc: Global, words: &[String]) -> Result<Options, Error> {
     })
 }
 
-/// Creates the command. A duration may begin with a hyphen, so that the library says what is wrong with `-1s`.
+/// Creates the command. A duration may begin with a hyphen, so that the library says what is wrong
+/// with `-1s`.
 fn command<'a>(alloc: Global) -> Result<Command<'a>, AllocError> {
     let timeout = arg!(in alloc; --timeout <DURATION> "How long to wait").default_value("30s");
     let window = arg!(in alloc; --window <DURATION> "How far to go").default_value("1year");

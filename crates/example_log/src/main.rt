@@ -1,8 +1,11 @@
-//! Prints the lines of a log on standard input whose times are in a range: `example_log FROM TO`, where TO is not in the range.
+//! Prints the lines of a log on standard input whose times are in a range: `example_log FROM TO`,
+//! where TO is not in the range.
 //!
-//! A line has its timestamp at the front. A line without one goes with the line before it, and is left out if there is none.
+//! A line has its timestamp at the front. A line without one goes with the line before it, and is
+//! left out if there is none.
 //!
-//! The exit status is 0, or 2 for wrong arguments, or 1 if reading or writing fails or an allocation fails.
+//! The exit status is 0, or 2 for wrong arguments, or 1 if reading or writing fails or an
+//! allocation fails.
 #![tactic(auto)]
 
 use humantime::{SystemTime, TimestampError};
@@ -24,7 +27,8 @@ fn main(rt: HostRuntime) -> io::Result<ExitCode> {
     Ok(ExitCode::from(status))
 }
 
-/// Copies the lines of a log between the times of two words, or writes what is wrong with the words, and returns the exit status.
+/// Copies the lines of a log between the times of two words, or writes what is wrong with the
+/// words, and returns the exit status.
 pub fn run<R: BufRead, W: Write>(
     alloc: Global,
     words: &[String],
@@ -60,7 +64,8 @@ fn range_of<'a>(from: &'a str, to: &'a str) -> Result<Range<SystemTime>, Wrong<'
     }
 }
 
-/// Copies the lines of a log whose times are in a range, each with the lines without a timestamp that follow it.
+/// Copies the lines of a log whose times are in a range, each with the lines without a timestamp
+/// that follow it.
 fn copy_lines<R: BufRead, W: Write>(
     alloc: Global,
     range: &Range<SystemTime>,

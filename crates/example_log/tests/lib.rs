@@ -7,10 +7,14 @@ use std::io::{self, BufReader, Cursor, Read};
 use std::test::Fail;
 
 const FROM: &str = "2018-02-14 00:28:07";
+
 const TO: &str = "2018-02-14 00:28:08";
 
 fn line_of(alloc: Global, words: &[&str]) -> Result<Vec<String>, AllocError> {
-    words.iter().map(|word| String::from_str(alloc, word)).try_collect(alloc)
+    words
+        .iter()
+        .map(|word| String::from_str(alloc, word))
+        .try_collect(alloc)
 }
 
 #[test]
@@ -19,20 +23,50 @@ fn each_stream_is_written(rt: HostRuntime) -> Result<(), Fail> {
         ([FROM, TO].as_slice(), 0, ""),
         ([FROM].as_slice(), 2, "usage: example_log FROM TO\n"),
         ([FROM, TO, TO].as_slice(), 2, "usage: example_log FROM TO\n"),
-        (["yesterday", "today"].as_slice(), 2,
-            "example_log: FROM: timestamp format is invalid\n  yesterday\n  ^\n"),
-        (["yesterday", TO].as_slice(), 2, "example_log: FROM: timestamp format is invalid\n  yesterday\n  ^\n"),
-        ([FROM, "2018-02-30 00:00:00"].as_slice(), 2, "example_log: TO: numeric component is out of range\n  2018-02-30 00:00:00\n          ^^\n"),
+        (
+            ["yesterday", "today"].as_slice(),
+            2,
+            "example_log: FROM: timestamp format is invalid\n  yesterday\n  ^\n",
+        ),
+        (
+            ["yesterday", TO].as_slice(),
+            2,
+            "example_log: FROM: timestamp format is invalid\n  yesterday\n  ^\n",
+        ),
+        (
+            [FROM, "2018-02-30 00:00:00"].as_slice(),
+            2,
+            "example_log: TO: numeric component is out of range\
+                \n  2018-02-30 00:00:00\
+                \n          ^^\n",
+        ),
     ] {
-        let (mut log, mut out, mut err) = (FROM.as_bytes(), Vec::new(rt.alloc()), Vec::new(rt.alloc()));
-        assert_eq!(rt; run(rt.alloc(), &line_of(rt.alloc(), words)?, &mut log, &mut out, &mut err)?, *status);
-        assert_eq!(rt; String::from_utf8(out)?.as_str(), if *status == 0 { FROM } else { "" });
+        let (mut log, mut out, mut err) = (
+            FROM.as_bytes(),
+            Vec::new(rt.alloc()),
+            Vec::new(rt.alloc()),
+        );
+        assert_eq!(rt;
+            run(
+                rt.alloc(),
+                &line_of(rt.alloc(), words)?,
+                &mut log,
+                &mut out,
+                &mut err
+            )?,
+            *status
+        );
+        assert_eq!(rt;
+            String::from_utf8(out)?.as_str(),
+            if *status == 0 { FROM } else { "" }
+        );
         assert_eq!(rt; String::from_utf8(err)?.as_str(), *message);
     }
     Ok(())
 }
 
-/// Each piece of the long line but the first begins with the text of a timestamp, as 36 and 65536 differ by a multiple of 20.
+/// Each piece of the long line but the first begins with the text of a timestamp, as 36 and 65536
+/// differ by a multiple of 20.
 #[test]
 fn a_long_line_comes_whole(rt: HostRuntime) -> Result<(), Fail> {
     let mut kept = format!(in rt.alloc(); "{FROM} sixteen letters ")?;
@@ -42,8 +76,15 @@ fn a_long_line_comes_whole(rt: HostRuntime) -> Result<(), Fail> {
     }
     kept.push_str("\nwith it\n")?;
     let log = format!(in rt.alloc(); "1970-01-01 00:00:00\nout\n{kept}{TO} late, no line feed")?;
-    let (words, mut out, mut err) = (line_of(rt.alloc(), &[FROM, TO])?, Vec::new(rt.alloc()), Vec::new(rt.alloc()));
-    assert_eq!(rt; run(rt.alloc(), &words, &mut log.as_bytes(), &mut out, &mut err)?, 0);
+    let (words, mut out, mut err) = (
+        line_of(rt.alloc(), &[FROM, TO])?,
+        Vec::new(rt.alloc()),
+        Vec::new(rt.alloc()),
+    );
+    assert_eq!(rt;
+        run(rt.alloc(), &words, &mut log.as_bytes(), &mut out, &mut err)?,
+        0
+    );
     assert!(rt; out.as_slice() == kept.as_bytes() && err.is_empty());
     Ok(())
 }
@@ -56,7 +97,10 @@ fn a_line_need_not_be_utf_8(rt: HostRuntime) -> Result<(), Fail> {
     log.extend_from_slice(kept)?;
     log.extend_from_slice(b"1970-01-01 00:00:00 out\xff\n".as_slice())?;
     let (mut out, mut err) = (Vec::new(rt.alloc()), Vec::new(rt.alloc()));
-    assert_eq!(rt; run(rt.alloc(), &words, &mut log.as_slice(), &mut out, &mut err)?, 0);
+    assert_eq!(rt;
+        run(rt.alloc(), &words, &mut log.as_slice(), &mut out, &mut err)?,
+        0
+    );
     assert!(rt; out.as_slice() == kept && err.is_empty());
     Ok(())
 }
@@ -70,8 +114,14 @@ fn a_line_that_fills_a_piece_ends_there(rt: HostRuntime) -> Result<(), Fail> {
     let log = format!(in rt.alloc(); "{kept}\n{TO} late\n")?;
     let (mut out, mut err) = (Vec::new(rt.alloc()), Vec::new(rt.alloc()));
     let words = line_of(rt.alloc(), &[FROM, TO])?;
-    assert_eq!(rt; run(rt.alloc(), &words, &mut log.as_bytes(), &mut out, &mut err)?, 0);
-    assert_eq!(rt; String::from_utf8(out)?.as_str().strip_prefix(kept.as_str()), Some("\n"));
+    assert_eq!(rt;
+        run(rt.alloc(), &words, &mut log.as_bytes(), &mut out, &mut err)?,
+        0
+    );
+    assert_eq!(rt;
+        String::from_utf8(out)?.as_str().strip_prefix(kept.as_str()),
+        Some("\n")
+    );
     Ok(())
 }
 
@@ -101,13 +151,29 @@ impl Read for Broken {
 
 #[test]
 fn a_failure_is_an_error_after_the_lines_before_it(rt: HostRuntime) -> Result<(), Fail> {
-    let (log, words) = ("2018-02-14 00:28:07.5 kept\nwith", line_of(rt.alloc(), &[FROM, TO])?);
+    let (log, words) = (
+        "2018-02-14 00:28:07.5 kept\nwith",
+        line_of(rt.alloc(), &[FROM, TO])?,
+    );
     let mut broken = BufReader::new(rt.alloc(), log.as_bytes().chain(Broken))?;
     let (mut out, mut err) = (Vec::new(rt.alloc()), Vec::new(rt.alloc()));
     let failure = run(rt.alloc(), &words, &mut broken, &mut out, &mut err).err();
-    assert_eq!(rt; failure.map(|error| error.kind()), Some(io::ErrorKind::ConnectionReset));
+    assert_eq!(rt;
+        failure.map(|error| error.kind()),
+        Some(io::ErrorKind::ConnectionReset)
+    );
     assert!(rt; out.as_slice() == b"2018-02-14 00:28:07.5 kept\n".as_slice());
-    let failure = run(rt.alloc(), &words, &mut log.as_bytes(), &mut Cursor::new([0; 9]), &mut err).err();
-    assert_eq!(rt; failure.map(|error| error.kind()), Some(io::ErrorKind::WriteZero));
+    let failure = run(
+        rt.alloc(),
+        &words,
+        &mut log.as_bytes(),
+        &mut Cursor::new([0; 9]),
+        &mut err,
+    )
+    .err();
+    assert_eq!(rt;
+        failure.map(|error| error.kind()),
+        Some(io::ErrorKind::WriteZero)
+    );
     Ok(())
 }

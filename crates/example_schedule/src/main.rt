@@ -1,8 +1,10 @@
-//! Prints when each job of a file runs next, how long it is until then, and when a failed job runs again: `schedule FILE NOW RETRY`.
+//! Prints when each job of a file runs next, how long it is until then, and when a failed job runs
+//! again: `schedule FILE NOW RETRY`.
 //!
-//! A line of the file is a job's name, the time of its last run and its interval, with spaces or tabs between them. RETRY is
-//! `FIRST..MOST xN`: the delay after the first failure, the longest delay, and how many times as long each delay is as the one before. The
-//! exit status is 0, or 2 if an argument or a line is wrong, or 1 if reading or writing fails or an allocation fails.
+//! A line of the file is a job's name, the time of its last run and its interval, with spaces or
+//! tabs between them. RETRY is `FIRST..MOST xN`: the delay after the first failure, the longest
+//! delay, and how many times as long each delay is as the one before. The exit status is 0, or 2 if
+//! an argument or a line is wrong, or 1 if reading or writing fails or an allocation fails.
 #![tactic(auto)]
 
 use humantime::{
@@ -62,7 +64,8 @@ fn read_duration(text: &str) -> Result<StdDuration, Wrong<'_>> {
     parse_duration(text).map_err(|error| Wrong::Duration(text, error))
 }
 
-/// Reads a line with a name, the time of the last run, and an interval, which is the rest of the line. The time is parsed first.
+/// Reads a line with a name, the time of the last run, and an interval, which is the rest of the
+/// line. The time is parsed first.
 fn read_job(line: &str) -> Result<Job<'_>, Wrong<'_>> {
     let (name, rest) = split_word(line);
     let (last_text, every_text) = split_word(rest);
@@ -122,7 +125,8 @@ pub fn run(
     }
 }
 
-/// Writes the next run of each job in an input, the errors of the other lines, and the delays. Returns the exit status.
+/// Writes the next run of each job in an input, the errors of the other lines, and the delays.
+/// Returns the exit status.
 fn write_runs(
     text: &str,
     now: &str,

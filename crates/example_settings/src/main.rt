@@ -1,8 +1,10 @@
-//! Checks a settings file and prints it with canonical strings: `example_settings FILE`, with a file in TOML.
+//! Checks a settings file and prints it with canonical strings: `example_settings FILE`, with a
+//! file in TOML.
 //!
-//! The exit status is 0 if the settings are valid, 2 unless there is exactly one argument, and 1 for any other error. If the settings have
-//! an error, standard error has the name of the file, the line, the column, what is wrong, and the line with a caret under the error. A
-//! wrong string, a misspelled key and a wrong tag:
+//! The exit status is 0 if the settings are valid, 2 unless there is exactly one argument, and 1
+//! for any other error. If the settings have an error, standard error has the name of the file, the
+//! line, the column, what is wrong, and the line with a caret under the error. A wrong string, a
+//! misspelled key and a wrong tag:
 //!
 //! ```text
 //! settings.toml: line 3, column 24: time unit needed, for example 60sec or 60ms
@@ -76,7 +78,8 @@ fn canonical(alloc: Global, text: &str) -> Result<String, SettingsError> {
     to_toml(alloc, &settings)
 }
 
-/// Writes the settings of a file, which the only word names, with canonical strings, or what is wrong. Returns the exit status.
+/// Writes the settings of a file, which the only word names, with canonical strings, or what is
+/// wrong. Returns the exit status.
 pub fn run(
     alloc: Global,
     words: &[String],

@@ -1,4 +1,5 @@
-//! Settings that are right, and with a wrong string, a misspelled key and a wrong tag, with all that is written.
+//! Settings that are right, and with a wrong string, a misspelled key and a wrong tag, with all
+//! that is written.
 #![tactic(auto)]
 
 use example_settings::run;
@@ -36,19 +37,35 @@ timeout = \"5s\"
 ";
 
 fn words_of(alloc: Global, words: &[&str]) -> Result<Vec<String>, AllocError> {
-    words.iter().map(|word| String::from_str(alloc, word)).try_collect(alloc)
+    words
+        .iter()
+        .map(|word| String::from_str(alloc, word))
+        .try_collect(alloc)
 }
 
 #[test]
 fn wrong_words_and_a_file_that_is_not_read_are_errors(rt: HostRuntime) -> Result<(), Fail> {
     for (words, status, message) in &[
         ([].as_slice(), 2, "usage: example_settings FILE\n"),
-        (["a.toml", "b.toml"].as_slice(), 2, "usage: example_settings FILE\n"),
+        (
+            ["a.toml", "b.toml"].as_slice(),
+            2,
+            "usage: example_settings FILE\n",
+        ),
         (["a.toml"].as_slice(), 1, "a.toml: entity not found\n"),
     ] {
         let (mut out, mut err) = (Vec::new(rt.alloc()), Vec::new(rt.alloc()));
         let file = Err(io::ErrorKind::NotFound.into());
-        assert_eq!(rt; run(rt.alloc(), &words_of(rt.alloc(), words)?, file, &mut out, &mut err)?, *status);
+        assert_eq!(rt;
+            run(
+                rt.alloc(),
+                &words_of(rt.alloc(), words)?,
+                file,
+                &mut out,
+                &mut err
+            )?,
+            *status
+        );
         assert_eq!(rt; String::from_utf8(err)?.as_str(), *message);
         assert!(rt; out.is_empty());
     }
@@ -59,19 +76,61 @@ fn wrong_words_and_a_file_that_is_not_read_are_errors(rt: HostRuntime) -> Result
 fn settings_or_the_error_are_written(rt: HostRuntime) -> Result<(), Fail> {
     for (right, wrong, out_text, err_text) in &[
         ("60s", "60s", CANONICAL, ""),
-        ("60s", "60", "", "a.toml: line 3, column 24: time unit needed, for example 60sec or 60ms\nretries = ['500ms', '60']\n                       ^\n"),
-        ("every", "evry", "", "a.toml: line 6, column 1: unknown field `evry`, expected one of `every`, `since`, `keep`, `target`\nevry = '36h'\n^\n"),
-        ("retries =", "retry = 3\nretries =", "",
+        (
+            "60s",
+            "60",
+            "",
+            "a.toml: line 3, column 24: time unit needed, for example 60sec or 60ms\
+                \nretries = ['500ms', '60']\
+                \n                       ^\n",
+        ),
+        (
+            "every",
+            "evry",
+            "",
+            "a.toml: line 6, column 1: unknown field `evry`, expected one of `every`, `since`, `keep`, `target`\
+                \nevry = '36h'\
+                \n^\n",
+        ),
+        (
+            "retries =",
+            "retry = 3\nretries =",
+            "",
             "a.toml: line 3, column 1: unknown field `retry`, expected one of `timeout`, \
-            `retries`, `backup`, `breaks`\nretry = 3\n^\n"),
-        ("retries = ['500ms', '60s']\n", "", "",
-            "a.toml: line 1, column 1: missing field `retries`\n# 90 seconds\n^\n"),
-        ("server", "sever", "", "a.toml: line 9, column 19: unknown variant `sever`, expected `directory` or `server`\ntarget = { kind = 'sever', address = '10.0.0.7', timeout = '5s' }\n                  ^\n"),
-        ("'5s'", "5", "", "a.toml: line 9, column 61: expected a duration in quotes\ntarget = { kind = 'server', address = '10.0.0.7', timeout = 5 }\n                                                            ^\n"),
+            `retries`, `backup`, `breaks`\nretry = 3\n^\n",
+        ),
+        (
+            "retries = ['500ms', '60s']\n",
+            "",
+            "",
+            "a.toml: line 1, column 1: missing field `retries`\n# 90 seconds\n^\n",
+        ),
+        (
+            "server",
+            "sever",
+            "",
+            "a.toml: line 9, column 19: unknown variant `sever`, expected `directory` or `server`\
+                \ntarget = { kind = 'sever', address = '10.0.0.7', timeout = '5s' }\
+                \n                  ^\n",
+        ),
+        (
+            "'5s'",
+            "5",
+            "",
+            "a.toml: line 9, column 61: expected a duration in quotes\
+                \ntarget = { kind = 'server', address = '10.0.0.7', timeout = 5 }\
+                \n                                                            ^\n",
+        ),
     ] {
         let (mut out, mut err) = (Vec::new(rt.alloc()), Vec::new(rt.alloc()));
         let text = SETTINGS.replace(rt.alloc(), *right, *wrong)?;
-        let status = run(rt.alloc(), &words_of(rt.alloc(), &["a.toml"])?, Ok(text), &mut out, &mut err)?;
+        let status = run(
+            rt.alloc(),
+            &words_of(rt.alloc(), &["a.toml"])?,
+            Ok(text),
+            &mut out,
+            &mut err,
+        )?;
         assert_eq!(rt; status, if err_text.is_empty() { 0 } else { 1 });
         assert_eq!(rt; String::from_utf8(out)?.as_str(), *out_text);
         assert_eq!(rt; String::from_utf8(err)?.as_str(), *err_text);

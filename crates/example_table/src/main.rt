@@ -1,6 +1,8 @@
-//! Prints the lines `NAME<TAB>DURATION` of standard input as a table, with each share of the total, the total, the mean and the longest.
+//! Prints the lines `NAME<TAB>DURATION` of standard input as a table, with each share of the total,
+//! the total, the mean and the longest.
 //!
-//! The exit status is 0, or 2 if a line is wrong, or 1 if reading or writing fails or an allocation fails.
+//! The exit status is 0, or 2 if a line is wrong, or 1 if reading or writing fails or an allocation
+//! fails.
 #![tactic(auto)]
 
 use humantime::{DurationError, StdDuration, format_duration};
@@ -36,7 +38,8 @@ fn main(rt: HostRuntime) -> io::Result<ExitCode> {
     Ok(ExitCode::from(status))
 }
 
-/// Writes the table of an input, or what is wrong with its first wrong line, and returns the exit status.
+/// Writes the table of an input, or what is wrong with its first wrong line, and returns the exit
+/// status.
 pub fn run(
     alloc: Global,
     text: &str,

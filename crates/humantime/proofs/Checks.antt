@@ -24,12 +24,15 @@ use Rattle.humantime.proofs.TimestampParts.{has_two_from_test, number_of_two, nu
 
 -- No check of the weak form fails.
 pub all_passed : (bytes : List ℕ) → first_failed (weak_checks bytes) ≡ None
-    → (19 ≤ length bytes) × (has_punctuation bytes ≡ true) × (has_digits bytes ≡ true) × (is_valid_date_time (date_time_of bytes) ≡ true)
-    × (has_point (fraction_part bytes) ≡ true) × (all_ascii_digits (drop 1 (fraction_part bytes)) ≡ true)
+    → (19 ≤ length bytes) × (has_punctuation bytes ≡ true) × (has_digits bytes ≡ true)
+    × (is_valid_date_time (date_time_of bytes) ≡ true)
+    × (has_point (fraction_part bytes) ≡ true)
+    × (all_ascii_digits (drop 1 (fraction_part bytes)) ≡ true)
 all_passed bytes h = grind (arith, nat_tests)
 
 -- The parts of a right layout.
-pub layout_parts : (bytes : List ℕ) → has_layout bytes ≡ true → (19 ≤ length bytes) × (has_punctuation bytes ≡ true) × (has_digits bytes ≡ true)
+pub layout_parts : (bytes : List ℕ) → has_layout bytes ≡ true
+    → (19 ≤ length bytes) × (has_punctuation bytes ≡ true) × (has_digits bytes ≡ true)
 unfolding has_layout
 layout_parts bytes h = grind (arith, nat_tests)
 
@@ -52,7 +55,8 @@ fields_of bytes = record {
 
 -- The pairs of digits at their positions.
 pub pairs_from_test : (bytes : List ℕ) → has_digits bytes ≡ true
-    → (has_two bytes 0 ≡ true) × (has_two bytes 2 ≡ true) × (has_two bytes 5 ≡ true) × (has_two bytes 8 ≡ true)
+    → (has_two bytes 0 ≡ true) × (has_two bytes 2 ≡ true) × (has_two bytes 5 ≡ true)
+    × (has_two bytes 8 ≡ true)
     × (has_two bytes 11 ≡ true) × (has_two bytes 14 ≡ true) × (has_two bytes 17 ≡ true)
 unfolding has_digits
 pairs_from_test bytes h = grind (arith, and_parts)
@@ -62,9 +66,15 @@ part_digits part = grind arith
 
 -- The first 19 bytes, and the rest.
 pub nineteen : (bytes : List ℕ) → 19 ≤ length bytes
-    → bytes ≡ get_or bytes 0 0 ∷ get_or bytes 1 0 ∷ get_or bytes 2 0 ∷ get_or bytes 3 0 ∷ get_or bytes 4 0 ∷ get_or bytes 5 0 ∷ get_or bytes 6 0 ∷ get_or bytes 7 0 ∷ get_or bytes 8 0 ∷ get_or bytes 9 0
-    ∷ get_or bytes 10 0 ∷ get_or bytes 11 0 ∷ get_or bytes 12 0 ∷ get_or bytes 13 0 ∷ get_or bytes 14 0 ∷ get_or bytes 15 0 ∷ get_or bytes 16 0 ∷ get_or bytes 17 0 ∷ get_or bytes 18 0 ∷ drop 19 bytes
-nineteen (b0 ∷ b1 ∷ b2 ∷ b3 ∷ b4 ∷ b5 ∷ b6 ∷ b7 ∷ b8 ∷ b9 ∷ b10 ∷ b11 ∷ b12 ∷ b13 ∷ b14 ∷ b15 ∷ b16 ∷ b17 ∷ b18 ∷ r) h = refl
+    → bytes ≡ get_or bytes 0 0 ∷ get_or bytes 1 0 ∷ get_or bytes 2 0 ∷ get_or bytes 3 0
+    ∷ get_or bytes 4 0 ∷ get_or bytes 5 0 ∷ get_or bytes 6 0 ∷ get_or bytes 7 0
+    ∷ get_or bytes 8 0 ∷ get_or bytes 9 0
+    ∷ get_or bytes 10 0 ∷ get_or bytes 11 0 ∷ get_or bytes 12 0 ∷ get_or bytes 13 0
+    ∷ get_or bytes 14 0 ∷ get_or bytes 15 0 ∷ get_or bytes 16 0 ∷ get_or bytes 17 0
+    ∷ get_or bytes 18 0 ∷ drop 19 bytes
+nineteen (b0 ∷ b1 ∷ b2 ∷ b3 ∷ b4 ∷ b5 ∷ b6 ∷ b7 ∷ b8 ∷ b9 ∷ b10 ∷ b11 ∷ b12 ∷ b13 ∷ b14 ∷ b15 ∷ b16
+    ∷ b17 ∷ b18 ∷ r) h =
+    refl
 nineteen _ h = absurd (omega arith)
 
 -- ==== Bytes and numbers that are tested at once are tested as if one by one.
@@ -75,15 +85,24 @@ are_set ms = list_all (λ m. m) ms
 
 all_bits : (ms : List Bool) → eqb (mask_l ms) (2 ^ length ms - 1) ≡ are_set ms
 all_bits [] = refl
-all_bits (m ∷ ms) = grind (arith, nat_tests, (all_bits ms), two-pow-succ (length ms), one-le-pow (length ms) 2 (omega arith))
+all_bits (m ∷ ms) = grind (
+  arith,
+  nat_tests,
+  (all_bits ms),
+  two-pow-succ (length ms),
+  one-le-pow (length ms) 2 (omega arith),
+)
 
 -- The lanes of a vector, compared with zero.
 zeros_compared : (xs : List ℕ) → length xs ≡ 16
-    → eqb (mask_l (map (top (hbits w8)) (zip2 (λ a b. cond (eqb a b) (2 ^ bits w8 - 1) 0) xs (replicate 16 0))) % 2 ^ 64) (2 ^ 16 - 1) ≡ list_all (λ x. eqb x 0) xs
+    → eqb (mask_l (map (top (hbits w8))
+    (zip2 (λ a b. cond (eqb a b) (2 ^ bits w8 - 1) 0) xs (replicate 16 0))) % 2 ^ 64)
+    (2 ^ 16 - 1) ≡ list_all (λ x. eqb x 0) xs
 zeros_compared xs long =
     let size = length-zip2 eqb xs (replicate 16 0) long ∙ long in
     rw (tops_compared w8 eqb xs (replicate 16 0), mask_l-mod (zip2 eqb xs (replicate 16 0)) 64 (omega (arith, size)))
-    (rw size at (all_bits (zip2 eqb xs (replicate 16 0))) ∙ ap are_set (zip2_splat eqb xs 16 0 long) ∙ list_all-map (λ m. m) (λ x. eqb x 0) xs)
+    (rw size at (all_bits (zip2 eqb xs (replicate 16 0))) ∙ ap are_set
+    (zip2_splat eqb xs 16 0 long) ∙ list_all-map (λ m. m) (λ x. eqb x 0) xs)
 
 -- The difference of two bytes, wrapping around.
 abbrev pub above : ℕ → ℕ → ℕ
@@ -108,46 +127,64 @@ least_back = codes "0-00-00 00:00:00"
 
 -- How far the numbers exceed their maxima.
 abbrev excesses : List ℕ → List ℕ → List ℕ
-excesses xs most = zip2 above (sel_l (map (top 7) (zip2 (λ a m. cond (ltb a m) 255 0) xs most)) most xs) most
+excesses xs most =
+    zip2 above (sel_l (map (top 7) (zip2 (λ a m. cond (ltb a m) 255 0) xs most)) most xs) most
 
 abbrev pub beyond : List ℕ → List ℕ
 beyond bytes =
-    zip2 bit_or (excesses (zip2 above (take 16 bytes) least) (9 ∷ 9 ∷ 9 ∷ 9 ∷ 0 ∷ 9 ∷ 9 ∷ 0 ∷ 9 ∷ 9 ∷ 255 ∷ 9 ∷ 9 ∷ 0 ∷ 9 ∷ 9 ∷ []))
-    (excesses (zip2 above (take 16 (drop 3 bytes)) least_back) (9 ∷ 0 ∷ 9 ∷ 9 ∷ 0 ∷ 9 ∷ 9 ∷ 255 ∷ 9 ∷ 9 ∷ 0 ∷ 9 ∷ 9 ∷ 0 ∷ 9 ∷ 9 ∷ []))
+    zip2 bit_or (excesses (zip2 above (take 16 bytes) least)
+    (9 ∷ 9 ∷ 9 ∷ 9 ∷ 0 ∷ 9 ∷ 9 ∷ 0 ∷ 9 ∷ 9 ∷ 255 ∷ 9 ∷ 9 ∷ 0 ∷ 9 ∷ 9 ∷ []))
+    (excesses (zip2 above (take 16 (drop 3 bytes)) least_back)
+    (9 ∷ 0 ∷ 9 ∷ 9 ∷ 0 ∷ 9 ∷ 9 ∷ 255 ∷ 9 ∷ 9 ∷ 0 ∷ 9 ∷ 9 ∷ 0 ∷ 9 ∷ 9 ∷ []))
 
 -- The punctuation can be tested first, and then the digits.
 signs_first : (s t u v a b c d e f g h i j k l m n : Bool)
     → are_set ((a && d) ∷ (b && s) ∷ (c && e) ∷ (d && f) ∷ (s && t) ∷ (e && g) ∷ (f && h) ∷ (t && true)
     ∷ (g && i) ∷ (h && j) ∷ (true && u) ∷ (i && k) ∷ (j && l) ∷ (u && v) ∷ (k && m) ∷ (l && n) ∷ [])
-    ≡ ((s && t && true && u && v) && ((a && b) && ((c && d) && ((e && f) && ((g && h) && ((i && j) && ((k && l) && ((m && n) && true))))))))
+    ≡ ((s && t && true && u && v) && ((a && b) && ((c && d)
+    && ((e && f) && ((g && h) && ((i && j) && ((k && l) && ((m && n) && true))))))))
 signs_first s t u v a b c d e f g h i j k l m n = grind arith
 
-bytes_tested : (bytes : List ℕ) → 19 ≤ length bytes → ((k : ℕ) → Fits w8 (get_or bytes k 0)) → has_separator bytes ≡ true
+bytes_tested : (bytes : List ℕ) → 19 ≤ length bytes → ((k : ℕ) → Fits w8 (get_or bytes k 0))
+    → has_separator bytes ≡ true
     → list_all (λ n. nat_eq n 0) (beyond bytes) ≡ has_layout bytes
 unfolding has_layout has_punctuation has_digits has_two
 bytes_tested bytes long fits separator =
     let byte = λ (k : ℕ). get_or bytes k 0 in
     let shown = λ (k : ℕ). is_ascii_digit (byte k) in
-    let digit = λ (k : ℕ). agree_below_at (λ c. nat_eq (excess (above c 48) 9) 0) is_ascii_digit 256 (byte k) refl (fits k).fits in
+    let digit =
+    λ (k : ℕ). agree_below_at (λ c. nat_eq (excess (above c 48) 9) 0) is_ascii_digit 256
+    (byte k) refl (fits k).fits in
     let dash = λ (k : ℕ). sign_excess (byte k) 45 (fits k).fits (omega arith) in
     let colon = λ (k : ℕ). sign_excess (byte k) 58 (fits k).fits (omega arith) in
-    let free = agree_below_at (λ n. nat_eq (excess n 255) 0) (λ _. true) 256 (above (byte 10) 32) refl (omega arith) in
+    let free = agree_below_at (λ n. nat_eq (excess n 255) 0) (λ _. true) 256 (above (byte 10) 32)
+    refl (omega arith) in
     ap (λ (bytes : List ℕ). list_all (λ n. nat_eq n 0) (beyond bytes)) (nineteen bytes long)
     ∙ (λ i. are_set (
-    both _ _ (digit 0) (digit 3) i ∷ both _ _ (digit 1) (dash 4) i ∷ both _ _ (digit 2) (digit 5) i ∷ both _ _ (digit 3) (digit 6) i
-    ∷ both _ _ (dash 4) (dash 7) i ∷ both _ _ (digit 5) (digit 8) i ∷ both _ _ (digit 6) (digit 9) i ∷ both _ _ (dash 7) free i
-    ∷ both _ _ (digit 8) (digit 11) i ∷ both _ _ (digit 9) (digit 12) i ∷ both _ _ free (colon 13) i ∷ both _ _ (digit 11) (digit 14) i
-    ∷ both _ _ (digit 12) (digit 15) i ∷ both _ _ (colon 13) (colon 16) i ∷ both _ _ (digit 14) (digit 17) i ∷ both _ _ (digit 15) (digit 18) i ∷ []
+    both _ _ (digit 0) (digit 3) i ∷ both _ _ (digit 1) (dash 4) i ∷ both _ _ (digit 2) (digit 5) i
+    ∷ both _ _ (digit 3) (digit 6) i
+    ∷ both _ _ (dash 4) (dash 7) i ∷ both _ _ (digit 5) (digit 8) i ∷ both _ _ (digit 6) (digit 9) i
+    ∷ both _ _ (dash 7) free i
+    ∷ both _ _ (digit 8) (digit 11) i ∷ both _ _ (digit 9) (digit 12) i ∷ both _ _ free (colon 13) i
+    ∷ both _ _ (digit 11) (digit 14) i
+    ∷ both _ _ (digit 12) (digit 15) i ∷ both _ _ (colon 13) (colon 16) i
+    ∷ both _ _ (digit 14) (digit 17) i ∷ both _ _ (digit 15) (digit 18) i ∷ []
     ))
     ∙ rw (separator, le-leb 19 (length bytes) long)
     (signs_first (byte 4 == 45) (byte 7 == 45) (byte 13 == 58) (byte 16 == 58)
-    (shown 0) (shown 1) (shown 2) (shown 3) (shown 5) (shown 6) (shown 8) (shown 9) (shown 11) (shown 12) (shown 14) (shown 15) (shown 17) (shown 18))
+    (shown 0) (shown 1) (shown 2) (shown 3) (shown 5) (shown 6) (shown 8) (shown 9) (shown 11)
+    (shown 12) (shown 14) (shown 15) (shown 17) (shown 18))
 
 -- All lanes are tested at once.
-pub layout_tested : (bytes : List ℕ) → 19 ≤ length bytes → ((k : ℕ) → Fits w8 (get_or bytes k 0)) → has_separator bytes ≡ true
-    → eqb (mask_l (map (top (hbits w8)) (zip2 (λ a b. cond (eqb a b) (2 ^ bits w8 - 1) 0) (beyond bytes) (replicate 16 0))) % 2 ^ 64) (2 ^ 16 - 1) ≡ has_layout bytes
+pub layout_tested : (bytes : List ℕ) → 19 ≤ length bytes → ((k : ℕ) → Fits w8 (get_or bytes k 0))
+    → has_separator bytes ≡ true
+    → eqb (mask_l (map (top (hbits w8))
+    (zip2 (λ a b. cond (eqb a b) (2 ^ bits w8 - 1) 0) (beyond bytes) (replicate 16 0))) % 2 ^
+    64)
+    (2 ^ 16 - 1) ≡ has_layout bytes
 layout_tested bytes long fits separator =
-    zeros_compared (beyond bytes) (ap (λ (bytes : List ℕ). length (beyond bytes)) (nineteen bytes long)) ∙ bytes_tested bytes long fits separator
+    zeros_compared (beyond bytes) (ap (λ (bytes : List ℕ). length (beyond bytes))
+    (nineteen bytes long)) ∙ bytes_tested bytes long fits separator
 
 -- ==== The weighted sums of digits are the numbers of date and time.
 
@@ -159,20 +196,34 @@ abbrev back_weights : List ℕ
 back_weights = 1 ∷ 0 ∷ 0 ∷ 0 ∷ 0 ∷ 0 ∷ 0 ∷ 0 ∷ 10 ∷ 1 ∷ 0 ∷ 0 ∷ 0 ∷ 0 ∷ 10 ∷ 1 ∷ []
 
 -- The sums of two products fit the 16 bits in which they are computed.
-pub sums_fit : (bytes : List ℕ) → 19 ≤ length bytes → T (all_below 32768 (pair_sums (products (zip2 above (take 16 bytes) least) front_weights)))
+pub sums_fit : (bytes : List ℕ) → 19 ≤ length bytes
+    → T (all_below 32768 (pair_sums (products (zip2 above (take 16 bytes) least) front_weights)))
     × T (all_below 32768 (pair_sums (products (zip2 above (take 16 (drop 3 bytes)) least_back) back_weights)))
-sums_fit bytes long = (grind (arith, common_steps, nat_tests), grind (arith, common_steps, nat_tests))
+sums_fit bytes long =
+    (grind (arith, common_steps, nat_tests), grind (arith, common_steps, nat_tests))
 
 -- The numbers, by the sums over the first 16 bytes and over those from byte 3 on.
 abbrev summed : List ℕ → DateAndTime
 summed bytes =
     let front = slice_index (dots (zip2 above (take 16 bytes) least) front_weights) in
     let back = slice_index (dots (zip2 above (take 16 (drop 3 bytes)) least_back) back_weights) in
-    record { date = record { year = front 0 * 10 + back 0; month = front 1; day = front 2 }; hour = back 2; minute = front 3; second = back 3 }
+    record {
+      date = record { year = front 0 * 10 + back 0; month = front 1; day = front 2 };
+      hour = back 2;
+      minute = front 3;
+      second = back 3;
+    }
 
-pub date_time_summed : (bytes : List ℕ) → 19 ≤ length bytes → has_digits bytes ≡ true → summed bytes ≡ date_time_of bytes
+pub date_time_summed : (bytes : List ℕ) → 19 ≤ length bytes → has_digits bytes ≡ true
+    → summed bytes ≡ date_time_of bytes
 date_time_summed bytes long digits =
-    ap summed (nineteen bytes long) ∙ grind (arith, (pairs_from_test bytes digits), has_two_from_test, number_of_four, number_of_two)
+    ap summed (nineteen bytes long) ∙ grind (
+      arith,
+      (pairs_from_test bytes digits),
+      has_two_from_test,
+      number_of_four,
+      number_of_two,
+    )
 
 -- What the checks of a timestamp need, and the definitions that they open.
 pub ruleset checks = (layout_parts, common_steps, nat_tests, err_from_is_err_and, le-leb, take_rest)

@@ -26,21 +26,26 @@ use Rattle.humantime.proofs.Characters.{take_while-only, take_while-drop_while}
 -- ==== The list of the views of the items of a text.
 
 -- The views of the spans of a walk represent these spans.
-spans_read : (text : List ℕ) (starts : List (List ℕ)) (stop : Option Fault) → map span_in (items_of (map (view_at text) starts) stop) ≡ items_of (map span_of starts) stop
+spans_read : (text : List ℕ) (starts : List (List ℕ)) (stop : Option Fault)
+    → map span_in (items_of (map (view_at text) starts) stop) ≡ items_of (map span_of starts) stop
 spans_read text [] stop = grind arith
 spans_read text (rest ∷ starts) stop = grind (arith, spelled_at, (spans_read text starts stop))
 
 -- Unless the text is `0`, the sum of its items is its outcome.
-sum_views_outcome : (text : List ℕ) → text ≢ bare_zero → sum_spans 0 (map span_in (item_views text)) ≡ duration_answer text
+sum_views_outcome : (text : List ℕ) → text ≢ bare_zero
+    → sum_spans 0 (map span_in (item_views text)) ≡ duration_answer text
 unfolding items left_at
 sum_views_outcome text some = grind (arith, spans_read, (duration_answer-items text some))
 
 -- The same for the bytes of the text, since a text whose one character is `0` is that byte.
-pub sum_answers : (bs : List ℕ) → IsUtf8 bs → bs ≢ bare_zero → sum_spans 0 (map span_in (item_views (chars bs))) ≡ duration_answer (chars bs)
-sum_answers bs u n = sum_views_outcome (chars bs) (λ e. n (grind (arith, (encodes-chars bs u), encode_ascii)))
+pub sum_answers : (bs : List ℕ) → IsUtf8 bs → bs ≢ bare_zero
+    → sum_spans 0 (map span_in (item_views (chars bs))) ≡ duration_answer (chars bs)
+sum_answers bs u n =
+    sum_views_outcome (chars bs) (λ e. n (grind (arith, (encodes-chars bs u), encode_ascii)))
 
 -- Each span of a walk has its view, up to the rest that the walk leaves.
-lends : (text : List ℕ) → Steps text (λ rest w. AreSpanViews text rest (map span_of w.starts) (map (view_at text) w.starts) w.rest)
+lends : (text : List ℕ) → Steps text
+    (λ rest w. AreSpanViews text rest (map span_of w.starts) (map (view_at text) w.starts) w.rest)
 lends text = grind (arith, next_of, is_span_view, is_fine)
 
 pub are_items : (text : List ℕ) → AreItems text (item_views text)
@@ -56,41 +61,65 @@ are_items text =
       each = rw i.1 (by_walk text _ (lends text) (drop_while is_whitespace text));
     }
 
-pub one_span_view : (text : List ℕ) (others : List (Result SpanView Fault)) → AreItems text others → others ≡ item_views text
+pub one_span_view : (text : List ℕ) (others : List (Result SpanView Fault)) → AreItems text others
+    → others ≡ item_views text
 one_span_view text others o =
     let a = are_items text in
-    grind (arith, (items_walked text o.spans o.stop o.items), (items_walked text a.spans a.stop a.items), one_view_each, a)
+    grind (
+      arith,
+      (items_walked text o.spans o.stop o.items),
+      (items_walked text a.spans a.stop a.items),
+      one_view_each,
+      a,
+    )
 
 -- If an error is the first item, it is the result of parsing.
-pub first_error_answers : (text : List ℕ) (listed others : List (Result SpanView Fault)) (e : Fault) → AreItems text listed
+pub first_error_answers : (text : List ℕ) (listed others : List (Result SpanView Fault)) (e : Fault)
+    → AreItems text listed
     → listed ≡ Err e ∷ others → text ≢ bare_zero → duration_answer text ≡ Err e
 unfolding sum_spans
-first_error_answers text listed others e a first some = grind (arith, (sum_views_outcome text some), (one_span_view text listed a))
+first_error_answers text listed others e a first some =
+    grind (arith, (sum_views_outcome text some), (one_span_view text listed a))
 
 -- ==== One step over the items of a text.
 
 after_space_bytes : (cs : List ℕ) → byte_length (after_space cs) ≤ byte_length cs
 after_space_bytes cs = grind (arith, common_steps, length-append)
 
-pub step_ended : (first : Bool) (text : List ℕ) → left_at first text [] ≡ (if first then Err Empty ∷ [] else [])
+pub step_ended : (first : Bool) (text : List ℕ)
+    → left_at first text [] ≡ (if first then Err Empty ∷ [] else [])
 unfolding left_at walk fault_at
 step_ended first text = grind arith
 
-pub step_stopped : (first : Bool) (text rest : List ℕ) (f : Fault) → rest ≢ [] → Err f ≡ read_span text rest → left_at first text rest ≡ Err f ∷ []
+pub step_stopped : (first : Bool) (text rest : List ℕ) (f : Fault) → rest ≢ []
+    → Err f ≡ read_span text rest → left_at first text rest ≡ Err f ∷ []
 unfolding left_at walk
 step_stopped first text rest f some e = grind (arith, common_steps)
 
 -- A span that was read has no fault.
-fine : (text rest next : List ℕ) (x : SpanView) → Ok (x, next) ≡ read_span text rest → (fault_at text rest ≡ None) × (x ≡ view_at text rest) × (next ≡ after_space (after_word rest))
+fine : (text rest next : List ℕ) (x : SpanView) → Ok (x, next) ≡ read_span text rest
+    → (fault_at text rest ≡ None) × (x ≡ view_at text rest) × (next ≡ after_space (after_word rest))
 fine text rest next x e = grind (arith, common_steps)
 
-pub step_shorter : (text rest next : List ℕ) (x : SpanView) → IsUtf8 rest → IsUtf8 next → Ok (x, chars next) ≡ read_span text (chars rest) → length next < length rest
+pub step_shorter : (text rest next : List ℕ) (x : SpanView) → IsUtf8 rest → IsUtf8 next
+    → Ok (x, chars next) ≡ read_span text (chars rest) → length next < length rest
 step_shorter text rest next x u v e =
-    grind (arith, (encodes-chars rest u), (encodes-chars next v), (is_fine text (chars rest)), (fine text (chars rest) (chars next) x e), after_space_bytes, next_bytes)
+    grind (
+      arith,
+      (encodes-chars rest u),
+      (encodes-chars next v),
+      (is_fine text (chars rest)),
+      (fine text (chars rest) (chars next) x e),
+      after_space_bytes,
+      next_bytes,
+    )
 
-pub step_goes : (first : Bool) (text rest next : List ℕ) (x : SpanView) → Ok (x, next) ≡ read_span text rest → left_at first text rest ≡ Ok x ∷ left_at false text (drop_while is_whitespace next)
+pub step_goes : (first : Bool) (text rest next : List ℕ) (x : SpanView)
+    → Ok (x, next) ≡ read_span text rest
+    → left_at first text rest ≡ Ok x ∷ left_at false text (drop_while is_whitespace next)
 unfolding left_at
-step_goes first text rest next x e = grind (arith, common_steps, (fine text rest next x e), (walk-go text rest))
+step_goes first text rest next x e =
+    grind (arith, common_steps, (fine text rest next x e), (walk-go text rest))
 
 -- ==== The slices of the items of a text tile it up to where the spans stop.
 
@@ -98,44 +127,68 @@ only_gap : (text : List ℕ) → HasOnly is_whitespace text → HasOnly is_gap t
 only_gap [] only = tt
 only_gap (c ∷ text) only = grind (arith, (only_gap text only.1))
 
-gap-tiled : (gap text : List ℕ) (slices : List (List ℕ)) → HasOnly is_gap gap → IsTiled text slices → IsTiled (gap ++ text) slices
+gap-tiled : (gap text : List ℕ) (slices : List (List ℕ)) → HasOnly is_gap gap → IsTiled text slices
+    → IsTiled (gap ++ text) slices
 gap-tiled gap text [] only tiled = each-append _ gap text only tiled
-gap-tiled gap text (slice ∷ slices) only tiled = (gap ++ tiled.0, tiled.1, grind (arith, append_assoc), each-append _ gap tiled.0 only tiled.3, tiled.4)
+gap-tiled gap text (slice ∷ slices) only tiled = (
+  gap ++ tiled.0,
+  tiled.1,
+  grind (arith, append_assoc),
+  each-append _ gap tiled.0 only tiled.3,
+  tiled.4,
+)
 
 -- The digits of a number or a fraction, and a text that is tiled.
-digits-tiled : (text slice after : List ℕ) (slices : List (List ℕ)) → IsDigitSlice text slice → IsTiled after slices → IsTiled (text ++ after) (slice ∷ slices)
+digits-tiled : (text slice after : List ℕ) (slices : List (List ℕ)) → IsDigitSlice text slice
+    → IsTiled after slices → IsTiled (text ++ after) (slice ∷ slices)
 digits-tiled text slice after slices h tiled =
     let rest = gap-tiled h.after after slices (only_gap h.after h.only_after) tiled in
     (h.before, h.after ++ after, grind (arith, append_assoc, h.whole), only_gap h.before h.only_before, rest)
 
 fraction-tiled : (text : List ℕ) (fraction : Option (List ℕ)) (after : List ℕ) (slices : List (List ℕ))
-    → IsFractionView text fraction → IsTiled after slices → IsTiled (text ++ after) (option_to_list fraction ++ slices)
+    → IsFractionView text fraction → IsTiled after slices
+    → IsTiled (text ++ after) (option_to_list fraction ++ slices)
 unfolding is_point
 fraction-tiled text None after slices view tiled = rw view tiled
 fraction-tiled text (Some slice) after slices view tiled =
-    rw (view.1) (gap-tiled (byte "." ∷ []) (view.0 ++ after) (slice ∷ slices) (grind arith) (digits-tiled view.0 slice after slices view.2 tiled))
+    rw (view.1) (gap-tiled (byte "." ∷ []) (view.0 ++ after) (slice ∷ slices) (grind arith)
+    (digits-tiled view.0 slice after slices view.2 tiled))
 
 -- The text is a front that the slices tile, followed by `end`.
 abbrev HasTiledFront : List ℕ → List (List ℕ) → List ℕ → Type 0
 HasTiledFront text slices end = (front : List ℕ) × (text ≡ front ++ end) × IsTiled front slices
 
-span_tiled : (text here : List ℕ) (s : SpelledSpan) (x : SpanView) (next : List ℕ) (slices : List (List ℕ)) (end : List ℕ)
-    → IsSpanView text here s x next → HasTiledFront next slices end → HasTiledFront here (slices_of (Ok x) ++ slices) end
+span_tiled : (text here : List ℕ) (s : SpelledSpan) (x : SpanView) (next : List ℕ)
+    (slices : List (List ℕ)) (end : List ℕ)
+    → IsSpanView text here s x next → HasTiledFront next slices end
+    → HasTiledFront here (slices_of (Ok x) ++ slices) end
 span_tiled text here s x next slices end view later =
     let spelled = view.spelled in
     let after = spelled.whitespace ++ later.0 in
-    let white = gap-tiled spelled.whitespace later.0 slices (only_gap spelled.whitespace spelled.only_whitespace) later.2 in
-    let word : IsTiled (s.word ++ after) (x.unit ∷ slices) = ([], after, ap (λ w. w ++ after) (sym view.unit), tt, white) in
-    let fraction = fraction-tiled spelled.fraction_text x.fraction (s.word ++ after) (x.unit ∷ slices) view.fraction word in
-    let front = spelled.number_text ++ (spelled.fraction_text ++ (s.word ++ after)) in
-    (front, grind (arith, common_steps), rw (append_assoc (option_to_list x.fraction) (x.unit ∷ []) slices) (digits-tiled spelled.number_text x.number _ _ view.number fraction))
+    let white = gap-tiled spelled.whitespace later.0 slices
+    (only_gap spelled.whitespace spelled.only_whitespace) later.2 in
+    let word : IsTiled (s.word ++ after) (x.unit ∷ slices) =
+    ([], after, ap (λ w. w ++ after) (sym view.unit), tt, white) in
+    let fraction = fraction-tiled spelled.fraction_text x.fraction (s.word ++ after)
+    (x.unit ∷ slices) view.fraction word in
+    let front = spelled.number_text ++ (spelled.fraction_text ++ (s.word ++ after)) in (
+      front,
+      grind (arith, common_steps),
+      rw
+          (append_assoc (option_to_list x.fraction) (x.unit ∷ []) slices)
+          (digits-tiled spelled.number_text x.number _ _ view.number fraction),
+    )
 
-views_tile : (text here : List ℕ) (spans : List SpelledSpan) (views : List SpanView) (end : List ℕ) (stop : Option Fault)
-    → AreSpanViews text here spans views end → HasTiledFront here (flat_map slices_of (items_of views stop)) end
-views_tile text here (s ∷ ss) (x ∷ xs) end stop each = span_tiled text here s x each.0 _ end each.1 (views_tile text each.0 ss xs end stop each.2)
+views_tile : (text here : List ℕ) (spans : List SpelledSpan) (views : List SpanView) (end : List ℕ)
+    (stop : Option Fault)
+    → AreSpanViews text here spans views end
+    → HasTiledFront here (flat_map slices_of (items_of views stop)) end
+views_tile text here (s ∷ ss) (x ∷ xs) end stop each =
+    span_tiled text here s x each.0 _ end each.1 (views_tile text each.0 ss xs end stop each.2)
 views_tile text here spans views end stop each = grind arith
 
-pub front_tiled : (text : List ℕ) (items : List (Result SpanView Fault)) (are : AreItems text items) → IsTiled are.items.front (flat_map slices_of items)
+pub front_tiled : (text : List ℕ) (items : List (Result SpanView Fault)) (are : AreItems text items)
+    → IsTiled are.items.front (flat_map slices_of items)
 front_tiled text items are =
     let white = take_while is_whitespace text in
     let found = views_tile text _ are.spans are.slices are.items.rest are.stop are.each in
@@ -143,8 +196,10 @@ front_tiled text items are =
     (grind (arith, append_assoc, found.1, (take_while-drop_while is_whitespace text), are.items.split.whole)) in
     rw (are.are, sym same) (gap-tiled white found.0 _ (only_gap white (take_while-only is_whitespace text)) found.2)
 
-pub text_tiled : (text : List ℕ) (items : List (Result SpanView Fault)) → AreItems text items → list_all is_ok items ≡ true → IsTiled text (flat_map slices_of items)
-text_tiled text items are each = grind (arith, list_all-append, and_parts, append-nil, (front_tiled text items are))
+pub text_tiled : (text : List ℕ) (items : List (Result SpanView Fault)) → AreItems text items
+    → list_all is_ok items ≡ true → IsTiled text (flat_map slices_of items)
+text_tiled text items are each =
+    grind (arith, list_all-append, and_parts, append-nil, (front_tiled text items are))
 
 -- What `next` needs.
 pub ruleset next_item = (step_ended, step_stopped, no_bytes, some_chars, common_steps, nat_tests)

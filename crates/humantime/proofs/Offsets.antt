@@ -24,21 +24,38 @@ pub record IsCharAt (text : List ℕ) (at char next : ℕ) : Type 0 where
   pub ascii : get_or text at 0 < 128 → char ≡ get_or text at 0
   pub wide : 128 ≤ get_or text at 0 → 128 ≤ char
 
-pub char_at : (text : List ℕ) (at : ℕ) → IsUtf8 text → IsCharStartIn text at → (char : ℕ) × IsCharAt text at char (at + len_utf8 char)
-char_at text at u here = by (chars (drop at text)) (encodes-chars (drop at text) (IsUtf8-drop text at u here.1))
+pub char_at : (text : List ℕ) (at : ℕ) → IsUtf8 text → IsCharStartIn text at
+    → (char : ℕ) × IsCharAt text at char (at + len_utf8 char)
+char_at text at u here =
+    by (chars (drop at text)) (encodes-chars (drop at text) (IsUtf8-drop text at u here.1))
   where
-    by : (cs : List ℕ) → encode_utf8_all cs ≡ drop at text → (char : ℕ) × IsCharAt text at char (at + len_utf8 char)
+    by : (cs : List ℕ) → encode_utf8_all cs ≡ drop at text
+        → (char : ℕ) × IsCharAt text at char (at + len_utf8 char)
     by [] e = absurd (omega (arith, ap length e, length-drop at text, here.0))
     by (c ∷ cs) e =
         let rest = drop at text in
         let utf8 = IsUtf8-drop text at u here.1 in
-        let after : drop (at + len_utf8 c) text ≡ encode_utf8_all cs = drop_past_char text (encode_utf8_all cs) at c (sym e) in
-        let bytes : rest ≡ encode_utf8 c ++ drop (at + len_utf8 c) text = sym e ∙ ap (λ (x : List ℕ). encode_utf8 c ++ x) (sym after) in
+        let after : drop (at + len_utf8 c) text ≡ encode_utf8_all cs =
+        drop_past_char text (encode_utf8_all cs) at c (sym e) in
+        let bytes : rest ≡ encode_utf8 c ++ drop (at + len_utf8 c) text =
+        sym e ∙ ap (λ (x : List ℕ). encode_utf8 c ++ x) (sym after) in
         let ahead = chars_past_char rest (drop (at + len_utf8 c) text) c utf8 bytes in
         let place = IsCharBoundary-past_char text (encode_utf8_all cs) at c (omega (arith, here.0)) utf8 (sym e) in
         let from_byte = char_from_byte rest (encode_utf8_all cs) c (sym e) in
-        let from_char = byte_from_char rest (encode_utf8_all cs) c (sym e) in
-        (c, grind (arith, bytes, ahead, place, from_byte, from_char, (cases_lt c 128), (get_or-drop at text 0 0), (length-drop at text)))
+        let from_char = byte_from_char rest (encode_utf8_all cs) c (sym e) in (
+          c,
+          grind (
+            arith,
+            bytes,
+            ahead,
+            place,
+            from_byte,
+            from_char,
+            (cases_lt c 128),
+            (get_or-drop at text 0 0),
+            (length-drop at text),
+          ),
+        )
 
 -- There is a character at an offset at which one begins.
 pub chars_at : (text : List ℕ) (at : ℕ) → IsUtf8 text → IsCharStartIn text at
@@ -46,17 +63,22 @@ pub chars_at : (text : List ℕ) (at : ℕ) → IsUtf8 text → IsCharStartIn te
 chars_at text at u here = grind (arith, common_steps, (char_at text at u here))
 
 -- An ASCII byte is a character.
-pub ascii_at : (text : List ℕ) (at : ℕ) → IsUtf8 text → IsCharStartIn text at → get_or text at 0 < 128 → IsCharAt text at (get_or text at 0) (at + 1)
+pub ascii_at : (text : List ℕ) (at : ℕ) → IsUtf8 text → IsCharStartIn text at
+    → get_or text at 0 < 128 → IsCharAt text at (get_or text at 0) (at + 1)
 ascii_at text at u here small = grind (arith, common_steps, nat_tests, char_at, len_utf8_ascii)
 
 -- There is a digit at an offset if and only if its byte is one.
-pub digit_at : (text : List ℕ) (at : ℕ) → IsUtf8 text → IsCharStartIn text at → is_ascii_digit (get_or text at 0) ≡ begins is_digit (chars (drop at text))
+pub digit_at : (text : List ℕ) (at : ℕ) → IsUtf8 text → IsCharStartIn text at
+    → is_ascii_digit (get_or text at 0) ≡ begins is_digit (chars (drop at text))
 unfolding is_digit
-digit_at text at u here = grind (arith, nat_tests, (char_at text at u here), (cases_lt (get_or text at 0) 128))
+digit_at text at u here =
+    grind (arith, nat_tests, (char_at text at u here), (cases_lt (get_or text at 0) 128))
 
 -- Whitespace at an offset is a character of its length.
-pub whitespace_over : (text : List ℕ) (at next : ℕ) → IsUtf8 text → IsCharStartIn text at → 0 < whitespace_len (chars (drop at text))
-    → next ≡ at + whitespace_len (chars (drop at text)) → (c : ℕ) × (is_whitespace c ≡ true) × IsCharAt text at c next
+pub whitespace_over : (text : List ℕ) (at next : ℕ) → IsUtf8 text → IsCharStartIn text at
+    → 0 < whitespace_len (chars (drop at text))
+    → next ≡ at + whitespace_len (chars (drop at text))
+    → (c : ℕ) × (is_whitespace c ≡ true) × IsCharAt text at c next
 whitespace_over text at next u here some n = let c = char_at text at u here in grind arith
 
 pub no_whitespace : (cs : List ℕ) → ¬ (0 < whitespace_len cs) → begins is_whitespace cs ≡ false
@@ -78,46 +100,70 @@ unfolding is_letter encode
 mu_over text at u place some pair =
     let d = char_at text at u (omega arith, place) in
     let after = drop (at + len_utf8 d.0) text in
-    grind (arith, common_steps, nat_tests, (encode_same d.0 181 after (drop (at + 2) text)), (encode_same d.0 956 after (drop (at + 2) text)), d)
+    grind (
+      arith,
+      common_steps,
+      nat_tests,
+      (encode_same d.0 181 after (drop (at + 2) text)),
+      (encode_same d.0 956 after (drop (at + 2) text)),
+      d,
+    )
 
 -- Dropping the letters from an offset on drops those from the next one on.
 abbrev pub DropsLetter : List ℕ → ℕ → ℕ → Type 0
-DropsLetter text at next = (drop_while is_letter (chars (drop at text)) ≡ drop_while is_letter (chars (drop next text))) × IsCharBoundary text next
+DropsLetter text at next =
+    (drop_while is_letter (chars (drop at text)) ≡ drop_while is_letter (chars (drop next text)))
+    × IsCharBoundary text next
 
 -- Tests whether there is one of the two letters that are not ASCII at an offset.
 abbrev pub has_mu : List ℕ → ℕ → Bool
-has_mu text at = nat_lt (at + 1) (length text) && is_mu_pair (get_or text at 0) (get_or text (at + 1) 0)
+has_mu text at =
+    nat_lt (at + 1) (length text) && is_mu_pair (get_or text at 0) (get_or text (at + 1) 0)
 
--- There is an ASCII letter at an offset, one of the two others, or none. Each conclusion begins with the test of a byte, by which `grind`
--- finds the lemma: found by the letters that are dropped, it would be applied to its own result again and again.
-pub ascii_letter : (text : List ℕ) (at : ℕ) → IsUtf8 text → IsCharStartIn text at → is_ascii_alphabetic (get_or text at 0) ≡ true
+-- There is an ASCII letter at an offset, one of the two others, or none. Each conclusion begins
+-- with the test of a byte, by which `grind` finds the lemma: found by the letters that are dropped,
+-- it would be applied to its own result again and again.
+pub ascii_letter : (text : List ℕ) (at : ℕ) → IsUtf8 text → IsCharStartIn text at
+    → is_ascii_alphabetic (get_or text at 0) ≡ true
     → (is_ascii_alphabetic (get_or text at 0) ≡ true) × DropsLetter text at (at + 1)
 unfolding is_letter
-ascii_letter text at u here letter = grind (arith, common_steps, nat_tests, (ascii_at text at u here))
+ascii_letter text at u here letter =
+    grind (arith, common_steps, nat_tests, (ascii_at text at u here))
 
-pub mu_letter : (text : List ℕ) (at : ℕ) → IsUtf8 text → IsCharStartIn text at → is_ascii_alphabetic (get_or text at 0) ≡ false → has_mu text at ≡ true
+pub mu_letter : (text : List ℕ) (at : ℕ) → IsUtf8 text → IsCharStartIn text at
+    → is_ascii_alphabetic (get_or text at 0) ≡ false → has_mu text at ≡ true
     → (is_ascii_alphabetic (get_or text at 0) ≡ false) × DropsLetter text at (at + 2)
-mu_letter text at u here other mu = grind (arith, common_steps, nat_tests, (mu_over text at u here.1))
+mu_letter text at u here other mu =
+    grind (arith, common_steps, nat_tests, (mu_over text at u here.1))
 
-pub no_letter : (text : List ℕ) (at : ℕ) → IsUtf8 text → IsCharStartIn text at → is_ascii_alphabetic (get_or text at 0) ≡ false → has_mu text at ≡ false
-    → (is_ascii_alphabetic (get_or text at 0) ≡ false) × (drop_while is_letter (chars (drop at text)) ≡ chars (drop at text))
+pub no_letter : (text : List ℕ) (at : ℕ) → IsUtf8 text → IsCharStartIn text at
+    → is_ascii_alphabetic (get_or text at 0) ≡ false → has_mu text at ≡ false
+    → (is_ascii_alphabetic (get_or text at 0) ≡ false)
+    × (drop_while is_letter (chars (drop at text)) ≡ chars (drop at text))
 unfolding is_letter encode
-no_letter text at u here other none = grind (arith, common_steps, nat_tests, (char_at text at u here))
+no_letter text at u here other none =
+    grind (arith, common_steps, nat_tests, (char_at text at u here))
 
 -- A mu is not whitespace.
-pub no_whitespace_at_mu : (text : List ℕ) (at : ℕ) → IsUtf8 text → IsCharBoundary text at → at + 1 < length text
-    → is_mu_pair (get_or text at 0) (get_or text (at + 1) 0) ≡ true → whitespace_len (chars (drop at text)) ≡ 0
-no_whitespace_at_mu text at u place some pair = grind (arith, common_steps, nat_tests, letter_not_whitespace, mu_over)
+pub no_whitespace_at_mu : (text : List ℕ) (at : ℕ) → IsUtf8 text → IsCharBoundary text at
+    → at + 1 < length text
+    → is_mu_pair (get_or text at 0) (get_or text (at + 1) 0) ≡ true
+    → whitespace_len (chars (drop at text)) ≡ 0
+no_whitespace_at_mu text at u place some pair =
+    grind (arith, common_steps, nat_tests, letter_not_whitespace, mu_over)
 
 -- Whitespace ends a span.
-pub whitespace_ends : (text : List ℕ) (at : ℕ) → IsUtf8 text → 0 < length text → 0 < whitespace_len (chars text) → at ≡ 0 + whitespace_len (chars text)
-    → IsCharBoundary text at × (may_follow_span (chars text) ≡ true) × (chars (drop at text) ≡ after_space (chars text))
+pub whitespace_ends : (text : List ℕ) (at : ℕ) → IsUtf8 text → 0 < length text
+    → 0 < whitespace_len (chars text) → at ≡ 0 + whitespace_len (chars text)
+    → IsCharBoundary text at × (may_follow_span (chars text) ≡ true)
+    × (chars (drop at text) ≡ after_space (chars text))
 whitespace_ends text at u some white n =
     grind (arith, whitespace_is_numeric, (whitespace_over text 0 at u (some, IsCharBoundary-start text u)))
 
 -- A space ends a span, and is one byte.
 pub space_ends : (text : List ℕ) → IsUtf8 text → 0 < length text → get_or text 0 0 ≡ 32
-    → IsCharBoundary text 1 × (may_follow_span (chars text) ≡ true) × (chars (drop 1 text) ≡ after_space (chars text))
+    → IsCharBoundary text 1 × (may_follow_span (chars text) ≡ true)
+    × (chars (drop 1 text) ≡ after_space (chars text))
 space_ends text u some e =
     grind (arith, ascii_whitespace, whitespace_is_numeric, (ascii_at text 0 u (some, IsCharBoundary-start text u)))
 
@@ -126,44 +172,79 @@ space_ends text u some e =
 pub whole_tail : (text : List ℕ) → IsUtf8 text → IsTail text text
 whole_tail text u = grind (arith, common_steps)
 
-pub slice_tail : (text rest : List ℕ) (at : ℕ) → IsUtf8 text → IsUtf8 rest → rest ≡ drop at text → length rest + at ≡ length text → IsTail text rest
-slice_tail text rest at u v e n = record { shorter = omega (arith, n); ends = e ∙ ap (λ (k : ℕ). drop k text) (omega (arith, n)); utf8 = v; whole = u }
+pub slice_tail : (text rest : List ℕ) (at : ℕ) → IsUtf8 text → IsUtf8 rest → rest ≡ drop at text
+    → length rest + at ≡ length text → IsTail text rest
+slice_tail text rest at u v e n = record {
+  shorter = omega (arith, n);
+  ends = e ∙ ap (λ (k : ℕ). drop k text) (omega (arith, n));
+  utf8 = v;
+  whole = u;
+}
 
-pub tail_tail : (text middle rest : List ℕ) → IsTail text middle → IsTail middle rest → IsTail text rest
+pub tail_tail : (text middle rest : List ℕ) → IsTail text middle → IsTail middle rest
+    → IsTail text rest
 tail_tail text middle rest t r = record {
   shorter = omega (arith, t.shorter, r.shorter);
-  ends = grind (arith, t.ends, r.ends, t.shorter, r.shorter, (drop-drop (length middle - length rest) (length text - length middle) text));
+  ends = grind (
+    arith,
+    t.ends,
+    r.ends,
+    t.shorter,
+    r.shorter,
+    (drop-drop (length middle - length rest) (length text - length middle) text),
+  );
   utf8 = r.utf8;
   whole = t.whole;
 }
 
-pub tail_boundary : (text rest : List ℕ) → IsTail text rest → IsCharBoundary text (length text - length rest)
-tail_boundary text rest t = IsCharBoundary-from_drop text (length text - length rest) (omega arith) (rw (← t.ends) (t.utf8))
+pub tail_boundary : (text rest : List ℕ) → IsTail text rest
+    → IsCharBoundary text (length text - length rest)
+tail_boundary text rest t =
+    IsCharBoundary-from_drop text (length text - length rest) (omega arith) (rw (← t.ends) (t.utf8))
 
-pub tail_offset : (text rest : List ℕ) → IsTail text rest → length text - length rest ≡ offset_of (chars text) (chars rest)
+pub tail_offset : (text rest : List ℕ) → IsTail text rest
+    → length text - length rest ≡ offset_of (chars text) (chars rest)
 tail_offset text rest t = grind (arith, encodes-chars)
 
 -- A rest that is not empty begins at a character.
-pub tail_place : (text rest : List ℕ) → IsTail text rest → chars rest ≢ [] → IsCharStartIn text (offset_of (chars text) (chars rest))
-tail_place text rest t some = rw (sym (tail_offset text rest t)) (grind (arith, common_steps, tail_boundary, chars-nil))
+pub tail_place : (text rest : List ℕ) → IsTail text rest → chars rest ≢ []
+    → IsCharStartIn text (offset_of (chars text) (chars rest))
+tail_place text rest t some =
+    rw (sym (tail_offset text rest t)) (grind (arith, common_steps, tail_boundary, chars-nil))
 
-pub tail_range : (text a b : List ℕ) → IsTail text a → IsTail a b → IsRangeIn text (offset_of (chars text) (chars a)) (offset_of (chars text) (chars b))
+pub tail_range : (text a b : List ℕ) → IsTail text a → IsTail a b
+    → IsRangeIn text (offset_of (chars text) (chars a)) (offset_of (chars text) (chars b))
 tail_range text a b t u =
     let v = tail_tail text a b t u in
-    rw (sym (tail_offset text a t), sym (tail_offset text b v)) (omega (arith, u.shorter), tail_boundary text a t, tail_boundary text b v)
+    rw (sym (tail_offset text a t), sym (tail_offset text b v)) (
+      omega (arith, u.shorter),
+      tail_boundary text a t,
+      tail_boundary text b v,
+    )
 
 -- The text between two rests is a slice of the text.
 pub tail_part : (text a b part : List ℕ) → IsTail text a → IsTail a b → a ≡ part ++ b
     → IsPartOf text part (offset_of (chars text) (chars a)) (offset_of (chars text) (chars b))
-tail_part text a b part t u e =
-    (tail_range text a b t u, rw (sym (tail_offset text a t), sym (tail_offset text b (tail_tail text a b t u))) (grind (arith, common_steps)))
+tail_part text a b part t u e = (
+  tail_range text a b t u,
+  rw
+      (sym (tail_offset text a t), sym (tail_offset text b (tail_tail text a b t u)))
+      (grind (arith, common_steps)),
+)
 
 -- The text before an offset, if the longest prefix that passes a test ends there.
-pub front_is : (p : ℕ → Bool) (text : List ℕ) (at : ℕ) → IsUtf8 text → IsCharBoundary text at → chars (drop at text) ≡ drop_while p (chars text)
+pub front_is : (p : ℕ → Bool) (text : List ℕ) (at : ℕ) → IsUtf8 text → IsCharBoundary text at
+    → chars (drop at text) ≡ drop_while p (chars text)
     → chars (take at text) ≡ take_while p (chars text)
 front_is p text at u place after =
     append_cancel_right _ _ (drop_while p (chars text))
-    (grind (arith, after, (chars-append (take at text) (drop at text) (IsUtf8-take text at u place)), (take-append-drop at text), (take_while-drop_while p (chars text))))
+    (grind (
+      arith,
+      after,
+      (chars-append (take at text) (drop at text) (IsUtf8-take text at u place)),
+      (take-append-drop at text),
+      (take_while-drop_while p (chars text)),
+    ))
 
 -- A text without characters has no bytes, and one without bytes no characters.
 pub some_chars : (bs : List ℕ) → IsUtf8 bs → length bs ≢ 0 → chars bs ≢ []
@@ -178,16 +259,28 @@ no_chars_at text at end = no_bytes (drop at text) (omega (arith, length-drop at 
 -- ==== What the functions that scan a text need.
 
 -- The rest of a text from an offset on, and a text without bytes.
-pub ruleset rests = (slice_tail, whole_tail, no_bytes, some_chars, no_chars_at, IsCharBoundary-start)
+pub ruleset rests =
+    (slice_tail, whole_tail, no_bytes, some_chars, no_chars_at, IsCharBoundary-start)
 
 -- The first character of a text.
-pub ruleset first = (rests, char_at, digit_at, digit_stays, cases_lt, ne_eqb, common_steps, nat_tests)
+pub ruleset first =
+    (rests, char_at, digit_at, digit_stays, cases_lt, ne_eqb, common_steps, nat_tests)
 
 -- The letters from an offset on.
-pub ruleset letters = (ascii_letter, mu_letter, no_letter, front_is, slice_tail, no_chars_at, IsCharBoundary-start, nat_tests)
+pub ruleset letters = (
+  ascii_letter,
+  mu_letter,
+  no_letter,
+  front_is,
+  slice_tail,
+  no_chars_at,
+  IsCharBoundary-start,
+  nat_tests,
+)
 
 -- Whitespace at an offset.
-pub ruleset whitespace_at = (ascii_at, ascii_whitespace, no_whitespace_at_mu, common_steps, nat_tests)
+pub ruleset whitespace_at =
+    (ascii_at, ascii_whitespace, no_whitespace_at_mu, common_steps, nat_tests)
 
 -- What ends a span.
 pub ruleset span_ends = (rests, space_ends, whitespace_ends, len_utf8_bounds, common_steps)

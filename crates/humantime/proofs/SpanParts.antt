@@ -22,18 +22,25 @@ pub record IsRead (text : List ℕ) (at next : ℕ) (ds : List ℕ) : Type 0 whe
   pub all : number_of (chars (drop at text)) ≡ ds ++ number_of (chars (drop next text))
   pub after : after_number (chars (drop next text)) ≡ after_number (chars (drop at text))
 
-pub read_digit : (text : List ℕ) (at : ℕ) → IsUtf8 text → IsCharStartIn text at → is_ascii_digit (get_or text at 0) ≡ true
+pub read_digit : (text : List ℕ) (at : ℕ) → IsUtf8 text → IsCharStartIn text at
+    → is_ascii_digit (get_or text at 0) ≡ true
     → IsRead text at (at + 1) (get_or text at 0 ∷ [])
-read_digit text at u here d = grind (arith, nat_tests, digit_is_numeric, (ascii_at text at u here), digit_is)
+read_digit text at u here d =
+    grind (arith, nat_tests, digit_is_numeric, (ascii_at text at u here), digit_is)
 
-pub read_whitespace : (text : List ℕ) (at next : ℕ) → IsUtf8 text → IsCharStartIn text at → 0 < whitespace_len (chars (drop at text))
+pub read_whitespace : (text : List ℕ) (at next : ℕ) → IsUtf8 text → IsCharStartIn text at
+    → 0 < whitespace_len (chars (drop at text))
     → next ≡ at + whitespace_len (chars (drop at text)) → IsRead text at next []
-read_whitespace text at next u here some n = grind (arith, whitespace_is_numeric, digit_not_whitespace, (whitespace_over text at next u))
+read_whitespace text at next u here some n =
+    grind (arith, whitespace_is_numeric, digit_not_whitespace, (whitespace_over text at next u))
 
 -- There is neither a digit nor whitespace at this offset.
-pub stops_here : (text bytes : List ℕ) (at : ℕ) → IsUtf8 text → bytes ≡ text → at < length bytes → IsCharBoundary text at → is_ascii_digit (get_or bytes at 0) ≡ false
-    → ¬ (0 < whitespace_len (chars (drop at text))) → begins is_numeric (chars (drop at text)) ≡ false
-stops_here text bytes at u same some place d w = grind (arith, common_steps, nat_tests, digit_at, no_whitespace)
+pub stops_here : (text bytes : List ℕ) (at : ℕ) → IsUtf8 text → bytes ≡ text → at < length bytes
+    → IsCharBoundary text at → is_ascii_digit (get_or bytes at 0) ≡ false
+    → ¬ (0 < whitespace_len (chars (drop at text)))
+    → begins is_numeric (chars (drop at text)) ≡ false
+stops_here text bytes at u same some place d w =
+    grind (arith, common_steps, nat_tests, digit_at, no_whitespace)
 
 -- The range of the bytes of digits.
 pub digit_range : (c : ℕ) → is_digit c ≡ true → (48 ≤ c) × (c ≤ 57)
@@ -41,12 +48,14 @@ unfolding is_digit
 digit_range c d = grind (arith, nat_tests)
 
 -- The first byte of a text that begins with a digit.
-pub first_digit : (text bytes : List ℕ) → IsUtf8 text → bytes ≡ text → begins is_digit (chars text) ≡ true
+pub first_digit : (text bytes : List ℕ) → IsUtf8 text → bytes ≡ text
+    → begins is_digit (chars text) ≡ true
     → (0 < length bytes) × (48 ≤ get_or bytes 0 0) × (is_ascii_digit (get_or bytes 0 0) ≡ true)
 first_digit text bytes u same d =
     grind (arith, no_bytes, digit_range, digit_is, (digit_at text 0 u), (IsCharBoundary-start text u))
 
-pub value_more : (ds : List ℕ) (c : ℕ) → is_digit c ≡ true → decimal_value (ds ++ c ∷ []) ≡ decimal_value ds * 10 + (c - 48)
+pub value_more : (ds : List ℕ) (c : ℕ) → is_digit c ≡ true
+    → decimal_value (ds ++ c ∷ []) ≡ decimal_value ds * 10 + (c - 48)
 value_more ds c d = grind (arith, digits_value-append, digit_value_digit, (digit_range c d))
 
 -- Further digits do not make a value smaller.
@@ -60,35 +69,65 @@ pub power_positive : (n : ℕ) → 0 < 10 ^ n
 power_positive n = one-le-pow n 10 (omega arith)
 
 pub digits_fit : (f : Fraction) (ds : List ℕ) → HasDigits f ds → f.significand < 2 ^ 64
-digits_fit f ds h = omega (arith, h.fits, pow-le-pow_right {n = 10} (omega arith) {i = f.exponent} {j = 19} h.few)
+digits_fit f ds h =
+    omega (arith, h.fits, pow-le-pow_right {n = 10} (omega arith) {i = f.exponent} {j = 19} h.few)
 
 -- There are no more digits before the trailing zeros than in all.
 pub fewer : (f : Fraction) (ds : List ℕ) → HasDigits f ds → f.exponent ≤ f.len
 fewer f ds h = grind (arith, h.parts, significant_shorter)
 
 -- Another digit follows the zeros.
-pub fraction_extended : (f : Fraction) (ds : List ℕ) (c p : ℕ) → HasDigits f ds → is_digit c ≡ true → c ≢ 48 → f.len + 1 ≤ 19 → p ≡ 10 ^ (f.len + 1 - f.exponent)
-    → HasDigits (record { significand = f.significand * p + (c - 48); exponent = f.len + 1; len = f.len + 1 }) (ds ++ c ∷ [])
+pub fraction_extended : (f : Fraction) (ds : List ℕ) (c p : ℕ) → HasDigits f ds → is_digit c ≡ true
+    → c ≢ 48 → f.len + 1 ≤ 19 → p ≡ 10 ^ (f.len + 1 - f.exponent)
+    → HasDigits (record {
+      significand = f.significand * p + (c - 48);
+      exponent = f.len + 1;
+      len = f.len + 1;
+    }) (ds ++ c ∷ [])
 fraction_extended f ds c p h is some few power =
     let k = f.len + 1 - f.exponent in
     let within = fewer f ds h in
     let value = value_shifted (ds ++ 48 ∷ []) k in
     let kept = significant_last ds c (ne_eqb c 48 some) in
-    let below : (f.significand + 1) * 10 ^ k ≤ 10 ^ f.exponent * 10 ^ k = mul-le-mul_right (10 ^ k) (omega (arith, h.fits)) in
-    let sum : 10 ^ (f.len + 1) ≡ 10 ^ f.exponent * 10 ^ k = ap (10 ^◌) (omega (arith, within)) ∙ pow-add 10 f.exponent k in
+    let below : (f.significand + 1) * 10 ^ k ≤ 10 ^ f.exponent * 10 ^ k =
+    mul-le-mul_right (10 ^ k) (omega (arith, h.fits)) in
+    let sum : 10 ^ (f.len + 1) ≡ 10 ^ f.exponent * 10 ^ k =
+    ap (10 ^◌) (omega (arith, within)) ∙ pow-add 10 f.exponent k in
     record {
-      parts = grind (arith, h.parts, kept, power, value, within, significant_zero, (value_more ds 48 (sym (digit_is 48))), (value_more ds c is), length-append);
+      parts = grind (
+        arith,
+        h.parts,
+        kept,
+        power,
+        value,
+        within,
+        significant_zero,
+        (value_more ds 48 (sym (digit_is 48))),
+        (value_more ds c is),
+        length-append,
+      );
       few = few;
-      fits = rw power (omega (arith, sum, below, digit_range c is, pow-le-pow_right {n = 10} (omega arith) {i = 1} {j = k} (omega (arith, within))));
+      fits =
+          rw power
+          (omega (
+            arith,
+            sum,
+            below,
+            digit_range c is,
+            pow-le-pow_right {n = 10} (omega arith) {i = 1} {j = k} (omega (arith, within)),
+          ));
     }
 
 -- The value of a fraction with another digit fits.
-pub digit_fits : (f : Fraction) (ds : List ℕ) (c p : ℕ) → HasDigits f ds → is_digit c ≡ true → c ≢ 48 → f.len + 1 ≤ 19 → p ≡ 10 ^ (f.len + 1 - f.exponent)
+pub digit_fits : (f : Fraction) (ds : List ℕ) (c p : ℕ) → HasDigits f ds → is_digit c ≡ true
+    → c ≢ 48 → f.len + 1 ≤ 19 → p ≡ 10 ^ (f.len + 1 - f.exponent)
     → f.significand * p + (c - 48) < 2 ^ 64
-digit_fits f ds c p h is some few power = digits_fit _ _ (fraction_extended f ds c p h is some few power)
+digit_fits f ds c p h is some few power =
+    digits_fit _ _ (fraction_extended f ds c p h is some few power)
 
 -- So does the product to which the digit is added.
-pub shift_fits : (f : Fraction) (ds : List ℕ) (c p : ℕ) → HasDigits f ds → is_digit c ≡ true → c ≢ 48 → f.len + 1 ≤ 19 → p ≡ 10 ^ (f.len + 1 - f.exponent)
+pub shift_fits : (f : Fraction) (ds : List ℕ) (c p : ℕ) → HasDigits f ds → is_digit c ≡ true
+    → c ≢ 48 → f.len + 1 ≤ 19 → p ≡ 10 ^ (f.len + 1 - f.exponent)
     → f.significand * p < 2 ^ 64
 shift_fits f ds c p h is some few power = omega (arith, digit_fits f ds c p h is some few power)
 
@@ -96,7 +135,8 @@ shift_fits f ds c p h is some few power = omega (arith, digit_fits f ds c p h is
 pub ruleset numbers = (first_digit, digit_is)
 
 -- What appending a digit to a fraction needs.
-pub ruleset fractions = (fewer, digit_fits, shift_fits, significant_long, significant_zero, digit_range, common_steps)
+pub ruleset fractions =
+    (fewer, digit_fits, shift_fits, significant_long, significant_zero, digit_range, common_steps)
 
 -- What reading a span from its fraction on needs.
 pub ruleset spans = (tail_boundary, tail_place, tail_tail, encodes-chars, nat_tests)

@@ -6,7 +6,8 @@ use Rattle.humantime.specs.declared.calendar.Chain.{Chain, Start, Next'}
 
 -- ==== The proleptic Gregorian calendar from 1970 to 9999. Years and months are counted one by one.
 
--- Tests whether a year is a leap year: a multiple of 4, but not of 100 unless it is also a multiple of 400.
+-- Tests whether a year is a leap year: a multiple of 4, but not of 100 unless it is also a multiple
+-- of 400.
 abbrev pub is_leap_year : ℕ → Bool
 is_leap_year y = (y % 4 == 0) && (not (y % 100 == 0) || (y % 400 == 0))
 
@@ -30,9 +31,11 @@ unfoldable pub days_of_months : ℕ → ℕ → ℕ
 days_of_months y zero = 0
 days_of_months y (suc n) = days_of_months y n + days_in_month y (suc n)
 
--- Tests whether a date exists: the year is 1970 to 9999, the month 1 to 12, and the day 1 to the length of the month.
+-- Tests whether a date exists: the year is 1970 to 9999, the month 1 to 12, and the day 1 to the
+-- length of the month.
 abbrev pub is_valid : ℕ → ℕ → ℕ → Bool
-is_valid y m d = is_in_range 1970 9999 y && is_in_range 1 12 m && is_in_range 1 (days_in_month y m) d
+is_valid y m d =
+    is_in_range 1970 9999 y && is_in_range 1 12 m && is_in_range 1 (days_in_month y m) d
 
 -- The date exists, and its year is 1970 to 9999.
 abbrev pub IsDate : Date → Type 0

@@ -4,7 +4,8 @@ use Rattle.std.specs.Str.Parse.{digits_value}
 use Rattle.std.specs.Char.{char_set_contains, is_ascii_digit, is_ascii_alphabetic}
 use Rattle.std.specs.Str.{byte}
 
--- ==== Definitions that durations and timestamps share. A text is the list of its characters, or of its bytes.
+-- ==== Definitions that durations and timestamps share. A text is the list of its characters, or of
+-- its bytes.
 
 -- Returns the longest prefix of a text whose characters all pass a test.
 abbrev pub take_while : (ℕ → Bool) → List ℕ → List ℕ
@@ -36,7 +37,8 @@ decimal_value ds = digits_value 10 ds
 -- The 25 whitespace characters of Unicode.
 unfoldable pub whitespace_chars : List ℕ
 whitespace_chars =
-    0x9 ∷ 0xa ∷ 0xb ∷ 0xc ∷ 0xd ∷ 0x20 ∷ 0x85 ∷ 0xa0 ∷ 0x1680 ∷ 0x2000 ∷ 0x2001 ∷ 0x2002 ∷ 0x2003 ∷ 0x2004 ∷ 0x2005 ∷ 0x2006
+    0x9 ∷ 0xa ∷ 0xb ∷ 0xc ∷ 0xd ∷ 0x20 ∷ 0x85 ∷ 0xa0 ∷ 0x1680 ∷ 0x2000 ∷ 0x2001 ∷ 0x2002 ∷ 0x2003
+    ∷ 0x2004 ∷ 0x2005 ∷ 0x2006
     ∷ 0x2007 ∷ 0x2008 ∷ 0x2009 ∷ 0x200a ∷ 0x2028 ∷ 0x2029 ∷ 0x202f ∷ 0x205f ∷ 0x3000 ∷ []
 
 -- The micro sign, U+00B5.

@@ -8,7 +8,9 @@ use Rattle.humantime.specs.Durations.{SpelledSpan, SpellsAll, scale_of_word, too
 use Rattle.humantime.specs.declared.duration.error.DurationError.{DurationError}
 use Rattle.humantime.specs.declared.duration.error.DurationError.TheVariants as errors
 
--- ==== The first error of a text that is not accepted, by a table of ten rows, of which exactly one applies. A text is its list of characters; offsets count its bytes, and a fault holds the bytes of its unit.
+-- ==== The first error of a text that is not accepted, by a table of ten rows, of which exactly one
+-- applies. A text is its list of characters; offsets count its bytes, and a fault holds the bytes
+-- of its unit.
 
 -- Returns the digits of the number at the start of `rest`.
 abbrev pub number_of : List ℕ → List ℕ
@@ -22,13 +24,15 @@ after_number rest = drop_while is_numeric rest
 abbrev pub after_point : List ℕ → Option (List ℕ)
 after_point text = if begins is_point text then Some (drop 1 text) else None
 
--- Returns the digits of the fraction after the number at the start of `rest`, if a point follows the number.
+-- Returns the digits of the fraction after the number at the start of `rest`, if a point follows
+-- the number.
 abbrev pub fraction_of : List ℕ → Option (List ℕ)
 fraction_of rest = option_map number_of (after_point (after_number rest))
 
 -- Returns what follows the number and the fraction at the start of `rest`.
 abbrev pub after_fraction : List ℕ → List ℕ
-after_fraction rest = unwrap_or (option_map after_number (after_point (after_number rest))) (after_number rest)
+after_fraction rest =
+    unwrap_or (option_map after_number (after_point (after_number rest))) (after_number rest)
 
 -- Returns the letters after the number and the fraction at the start of `rest`.
 abbrev pub word_of : List ℕ → List ℕ
@@ -38,7 +42,8 @@ word_of rest = take_while is_letter (after_fraction rest)
 abbrev pub after_word : List ℕ → List ℕ
 after_word rest = drop_while is_letter (after_fraction rest)
 
--- Returns the span at the start of `rest`. Its number, fraction and word are each as long as possible.
+-- Returns the span at the start of `rest`. Its number, fraction and word are each as long as
+-- possible.
 abbrev pub span_of : List ℕ → SpelledSpan
 span_of rest = record { number = number_of rest; fraction = fraction_of rest; word = word_of rest }
 
@@ -50,7 +55,8 @@ pub data Fault : Type 0 where
   NumberOverflow : Fault
   Empty : Fault
 
--- The text is a front that represents the spans, followed by a rest that does not begin with whitespace.
+-- The text is a front that represents the spans, followed by a rest that does not begin with
+-- whitespace.
 pub record Split (text front : List ℕ) (spans : List SpelledSpan) (rest : List ℕ) : Type 0 where
   pub whole : text ≡ front ++ rest
   pub spelled : SpellsAll front spans
@@ -66,49 +72,69 @@ abbrev pub may_follow_span : List ℕ → Bool
 may_follow_span [] = true
 may_follow_span (c ∷ cs) = is_numeric c
 
--- The rest begins with a whole span: a number, a fraction, if any, that has digits, and the word of a unit, after which the span may end.
+-- The rest begins with a whole span: a number, a fraction, if any, that has digits, and the word of
+-- a unit, after which the span may end.
 pub record BeginsSpan (rest : List ℕ) : Type 0 where
   pub number : BeginsNumber rest
   pub digits : fraction_of rest ≢ Some []
   pub unit : IsSome (scale_of_word (word_of rest))
   pub ended : may_follow_span (after_word rest) ≡ true
 
--- The first nine rows of the table: after the spans, the rest does not begin with a whole span, and the fault is `e`.
+-- The first nine rows of the table: after the spans, the rest does not begin with a whole span, and
+-- the fault is `e`.
 pub data IsStoppedWith (text front : List ℕ) (spans : List SpelledSpan) (rest : List ℕ) (e : Fault) : Type 0 where
   -- The text is empty or only whitespace.
   OnlyWhitespace : spans ≡ [] → rest ≡ [] → e ≡ Empty → IsStoppedWith text front spans rest e
   -- A character other than a digit is at the start, or after a span and whitespace.
-  NoNumber : rest ≢ [] → begins is_digit rest ≡ false → (spans ≡ []) ⊎ (ends is_whitespace front ≡ true)
+  NoNumber : rest ≢ [] → begins is_digit rest ≡ false
+      → (spans ≡ []) ⊎ (ends is_whitespace front ≡ true)
       → e ≡ NumberExpected (offset_of text rest) → IsStoppedWith text front spans rest e
   -- The number or its fraction is too long, whatever follows.
-  TooLong : begins is_digit rest ≡ true → too_long (span_of rest) ≡ true → e ≡ NumberOverflow → IsStoppedWith text front spans rest e
+  TooLong : begins is_digit rest ≡ true → too_long (span_of rest) ≡ true → e ≡ NumberOverflow
+      → IsStoppedWith text front spans rest e
   -- A character other than a point or a letter follows the number.
-  NoLetterAfterNumber : BeginsNumber rest → fraction_of rest ≡ None → word_of rest ≡ [] → after_word rest ≢ []
-      → e ≡ InvalidCharacter (offset_of text (after_word rest)) → IsStoppedWith text front spans rest e
-  -- A point has no digits, and then a letter follows or the text ends. The offset is that of the point.
-  PointWithoutDigits : BeginsNumber rest → fraction_of rest ≡ Some [] → (word_of rest ≢ []) ⊎ (after_word rest ≡ [])
-      → e ≡ InvalidCharacter (offset_of text (after_number rest)) → IsStoppedWith text front spans rest e
+  NoLetterAfterNumber : BeginsNumber rest → fraction_of rest ≡ None → word_of rest ≡ []
+      → after_word rest ≢ []
+      → e ≡ InvalidCharacter (offset_of text (after_word rest))
+      → IsStoppedWith text front spans rest e
+  -- A point has no digits, and then a letter follows or the text ends. The offset is that of the
+  -- point.
+  PointWithoutDigits : BeginsNumber rest → fraction_of rest ≡ Some []
+      → (word_of rest ≢ []) ⊎ (after_word rest ≡ [])
+      → e ≡ InvalidCharacter (offset_of text (after_number rest))
+      → IsStoppedWith text front spans rest e
   -- A character other than a letter follows a point and its digits, if any.
-  NoLetterAfterPoint : BeginsNumber rest → IsSome (fraction_of rest) → word_of rest ≡ [] → after_word rest ≢ []
-      → e ≡ InvalidCharacter (offset_of text (after_word rest)) → IsStoppedWith text front spans rest e
-  -- A character other than a digit or whitespace follows the letters, whether they are a unit or not.
-  WordNotEnded : BeginsNumber rest → fraction_of rest ≢ Some [] → word_of rest ≢ [] → may_follow_span (after_word rest) ≡ false
-      → e ≡ InvalidCharacter (offset_of text (after_word rest)) → IsStoppedWith text front spans rest e
+  NoLetterAfterPoint : BeginsNumber rest → IsSome (fraction_of rest) → word_of rest ≡ []
+      → after_word rest ≢ []
+      → e ≡ InvalidCharacter (offset_of text (after_word rest))
+      → IsStoppedWith text front spans rest e
+  -- A character other than a digit or whitespace follows the letters, whether they are a unit or
+  -- not.
+  WordNotEnded : BeginsNumber rest → fraction_of rest ≢ Some [] → word_of rest ≢ []
+      → may_follow_span (after_word rest) ≡ false
+      → e ≡ InvalidCharacter (offset_of text (after_word rest))
+      → IsStoppedWith text front spans rest e
   -- The text ends without a unit.
   NoWord : BeginsNumber rest → fraction_of rest ≢ Some [] → word_of rest ≡ [] → after_word rest ≡ []
-      → e ≡ UnknownUnit (byte_length text) (byte_length text) [] (decimal_value (number_of rest)) → IsStoppedWith text front spans rest e
+      → e ≡ UnknownUnit (byte_length text) (byte_length text) [] (decimal_value (number_of rest))
+      → IsStoppedWith text front spans rest e
   -- The word is not a unit.
-  UnknownWord : BeginsNumber rest → fraction_of rest ≢ Some [] → word_of rest ≢ [] → scale_of_word (word_of rest) ≡ None
-      → may_follow_span (after_word rest) ≡ true → e ≡ UnknownUnit (offset_of text (after_fraction rest)) (offset_of text (after_word rest)) (encode_utf8_all (word_of rest)) (decimal_value (number_of rest))
+  UnknownWord : BeginsNumber rest → fraction_of rest ≢ Some [] → word_of rest ≢ []
+      → scale_of_word (word_of rest) ≡ None
+      → may_follow_span (after_word rest) ≡ true
+      → e ≡ UnknownUnit (offset_of text (after_fraction rest)) (offset_of text (after_word rest))
+      (encode_utf8_all (word_of rest)) (decimal_value (number_of rest))
       → IsStoppedWith text front spans rest e
 
--- The tenth row of the table: the rest begins with a whole span, and the spans together with this one break a limit.
+-- The tenth row of the table: the rest begins with a whole span, and the spans together with this
+-- one break a limit.
 pub record BreaksLimit (spans : List SpelledSpan) (rest : List ℕ) (e : Fault) : Type 0 where
   pub span : BeginsSpan rest
   pub beyond : ¬ (WithinLimits (spans ++ span_of rest ∷ []))
   pub fault : e ≡ NumberOverflow
 
--- The text is not exactly `0`. It is spans within the limits followed by a rest, for which a row of the table gives the fault.
+-- The text is not exactly `0`. It is spans within the limits followed by a rest, for which a row of
+-- the table gives the fault.
 pub record HasFault (text : List ℕ) (e : Fault) : Type 0 where
   pub not_zero : text ≢ bare_zero
   pub front : List ℕ
@@ -148,7 +174,8 @@ IsRangeIn bytes start end = (start ≤ end) × IsCharBoundary bytes start × IsC
 abbrev pub IsPartOf : List ℕ → List ℕ → ℕ → ℕ → Type 0
 IsPartOf bytes part start end = IsRangeIn bytes start end × (part ≡ slice_range bytes start end)
 
--- If the error has one offset, a character begins there. If it has a unit, that is the slice between its offsets.
+-- If the error has one offset, a character begins there. If it has a unit, that is the slice
+-- between its offsets.
 abbrev pub PointsInto : List ℕ → DurationError → Type 0
 PointsInto bytes (errors.InvalidCharacter at) = IsCharStartIn bytes at
 PointsInto bytes (errors.NumberExpected at) = IsCharStartIn bytes at
@@ -166,7 +193,8 @@ place_of Empty = Some 0
 
 -- Returns the message for an unknown unit, or for a missing one if the unit is empty.
 abbrev pub unit_message : List ℕ → ℕ → List ℕ
-unit_message [] value = codes "time unit needed, for example " ++ decimal value ++ codes "sec or " ++ decimal value ++ codes "ms"
+unit_message [] value = codes "time unit needed, for example " ++ decimal value ++ codes "sec or "
+    ++ decimal value ++ codes "ms"
 unit_message (b ∷ bs) value =
     codes "unknown time unit \"" ++ (b ∷ bs)
     ++ (codes "\", supported units: ns, us/" ++ micro_suffix

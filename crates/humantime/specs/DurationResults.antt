@@ -10,7 +10,8 @@ use Rattle.humantime.specs.Items.{SpanView, items_of}
 use Rattle.humantime.specs.PrintedDurations.{weights, suffixes, printed_counts, joined_by_space}
 use Rattle.humantime.specs.declared.duration.error.DurationError.{DurationError}
 
--- ==== The items of a text, read from left to right, and what each borrows from it: the reference for the iterator over spans.
+-- ==== The items of a text, read from left to right, and what each borrows from it: the reference
+-- for the iterator over spans.
 
 -- Removes leading and trailing whitespace.
 abbrev pub trimmed : List ℕ → List ℕ
@@ -20,9 +21,11 @@ trimmed cs = drop_trailing_whitespace (drop_while is_whitespace cs)
 abbrev pub number_slice : List ℕ → List ℕ
 number_slice rest = drop_trailing_whitespace (take_while is_numeric rest)
 
--- The slice from the first to the last digit of the fraction, if `after`, the text after the number, begins with a point.
+-- The slice from the first to the last digit of the fraction, if `after`, the text after the
+-- number, begins with a point.
 abbrev pub fraction_slice : List ℕ → Option (List ℕ)
-fraction_slice after = option_map (λ digits. trimmed (take_while is_numeric digits)) (after_point after)
+fraction_slice after =
+    option_map (λ digits. trimmed (take_while is_numeric digits)) (after_point after)
 
 -- The slices, offsets and number of the span at the start of `rest`.
 abbrev pub view_at : List ℕ → List ℕ → SpanView
@@ -35,7 +38,8 @@ view_at text rest = record {
   value = decimal_value (number_of rest);
 }
 
--- The items from `rest` on: the views of the spans, followed by the error that stops them, if any. `first` is true if no span precedes `rest`.
+-- The items from `rest` on: the views of the spans, followed by the error that stops them, if any.
+-- `first` is true if no span precedes `rest`.
 unfoldable pub left_at : Bool → List ℕ → List ℕ → List (Result SpanView Fault)
 left_at first text rest =
     let w = walk_from text rest in
@@ -47,7 +51,8 @@ item_views text = left_at true text (drop_while is_whitespace text)
 
 -- The span that has these slices.
 abbrev pub spelled : List ℕ → Option (List ℕ) → List ℕ → SpelledSpan
-spelled number fraction unit = record { number = digits number; fraction = option_map digits fraction; word = unit }
+spelled number fraction unit =
+    record { number = digits number; fraction = option_map digits fraction; word = unit }
 
 -- The span of an item.
 abbrev pub span_in : Result SpanView Fault → Result SpelledSpan Fault
@@ -58,17 +63,19 @@ span_in (Err e) = Err e
 
 -- Returns the duration that a text denotes, in nanoseconds, or its first error.
 unfoldable pub duration_answer : List ℕ → Result ℕ Fault
-duration_answer text = if bytes_eq text bare_zero then Ok 0 else sum_spans 0 (items_of (items text).0 (items text).1)
+duration_answer text =
+    if bytes_eq text bare_zero then Ok 0 else sum_spans 0 (items_of (items text).0 (items text).1)
 
--- The result of parsing a text is the duration that it denotes if and only if the text is accepted, and otherwise its first error, which
--- points into the text.
+-- The result of parsing a text is the duration that it denotes if and only if the text is accepted,
+-- and otherwise its first error, which points into the text.
 pub record IsDurationAnswer (bytes : List ℕ) (r : Result ℕ DurationError) : Type 0 where
   pub value : (v : ℕ) → (result_view r ≡ Ok v) ↔ Accepted (chars bytes) v
   pub fault : (e : Fault) → (result_view r ≡ Err e) ↔ HasFault (chars bytes) e
   pub answer : result_view r ≡ duration_answer (chars bytes)
   pub place : IfErr r (PointsInto bytes)
 
--- Splits `d` into counts by division: each count is as large as possible, and the remainder is split by the weights that follow.
+-- Splits `d` into counts by division: each count is as large as possible, and the remainder is
+-- split by the weights that follow.
 abbrev pub divided : List ℕ → ℕ → List ℕ
 divided [] d = []
 divided (w ∷ ws) d = d / w ∷ divided ws (d % w)

@@ -9,7 +9,8 @@ pub use Rattle.humantime.specs.declared.unit.Scale.{Scale}
 use Rattle.humantime.specs.Values.{nanos_per_micro, nanos_per_milli, nanos_per_second, seconds_per_minute, seconds_per_hour, seconds_per_day, seconds_per_week, seconds_per_month, seconds_per_year}
 use Rattle.humantime.specs.Characters.{micro_sign, greek_mu, begins, is_whitespace, is_letter, is_numeric, is_digit, digits, decimal_value, without_trailing_zeros, max_fraction_digits, u64_max, bare_zero}
 
--- ==== The words of the units and the scale of each: what one unit adds, and what its fractions are parts of, if it has any. A quantity is a number of nanoseconds or of seconds.
+-- ==== The words of the units, each with its scale: what one unit adds, and the quantity of which
+-- its fractions are parts, if it has any. A quantity is a number of nanoseconds or of seconds.
 
 -- The scale of the nanosecond, which has no fractions.
 abbrev pub whole_nanos : Scale
@@ -21,7 +22,8 @@ in_nanos size = record { whole = Nanos size; part = Some (Nanos size) }
 
 -- The scale of a unit of `size` seconds, whose fractions are added as nanoseconds.
 abbrev pub in_seconds_and_nanos : ℕ → Scale
-in_seconds_and_nanos size = record { whole = Seconds size; part = Some (Nanos (size * nanos_per_second)) }
+in_seconds_and_nanos size =
+    record { whole = Seconds size; part = Some (Nanos (size * nanos_per_second)) }
 
 -- The scale of a unit of `size` seconds, whose fractions are added as seconds.
 abbrev pub in_seconds : ℕ → Scale
@@ -35,21 +37,28 @@ unit_words spellings scale = map (λ word. (word, scale)) spellings
 abbrev pub words : List (List ℕ × Scale)
 words =
     unit_words (codes "nanos" ∷ codes "nsec" ∷ codes "ns" ∷ []) whole_nanos
-    ++ unit_words (codes "usec" ∷ codes "us" ∷ (micro_sign ∷ codes "s") ∷ (greek_mu ∷ codes "s") ∷ []) (in_nanos nanos_per_micro)
+    ++ unit_words (codes "usec" ∷ codes "us" ∷ (micro_sign ∷ codes "s") ∷ (greek_mu ∷ codes "s")
+    ∷ []) (in_nanos nanos_per_micro)
     ++ unit_words (codes "millis" ∷ codes "msec" ∷ codes "ms" ∷ []) (in_nanos nanos_per_milli)
-    ++ unit_words (codes "seconds" ∷ codes "second" ∷ codes "secs" ∷ codes "sec" ∷ codes "s" ∷ []) (in_seconds_and_nanos 1)
-    ++ unit_words (codes "minutes" ∷ codes "minute" ∷ codes "min" ∷ codes "mins" ∷ codes "m" ∷ []) (in_seconds_and_nanos seconds_per_minute)
-    ++ unit_words (codes "hours" ∷ codes "hour" ∷ codes "hr" ∷ codes "hrs" ∷ codes "h" ∷ []) (in_seconds seconds_per_hour)
+    ++ unit_words (codes "seconds" ∷ codes "second" ∷ codes "secs" ∷ codes "sec" ∷ codes "s" ∷ [])
+    (in_seconds_and_nanos 1)
+    ++ unit_words (codes "minutes" ∷ codes "minute" ∷ codes "min" ∷ codes "mins" ∷ codes "m" ∷ [])
+    (in_seconds_and_nanos seconds_per_minute)
+    ++ unit_words (codes "hours" ∷ codes "hour" ∷ codes "hr" ∷ codes "hrs" ∷ codes "h" ∷ [])
+    (in_seconds seconds_per_hour)
     ++ unit_words (codes "days" ∷ codes "day" ∷ codes "d" ∷ []) (in_seconds seconds_per_day)
-    ++ unit_words (codes "weeks" ∷ codes "week" ∷ codes "wk" ∷ codes "wks" ∷ codes "w" ∷ []) (in_seconds seconds_per_week)
+    ++ unit_words (codes "weeks" ∷ codes "week" ∷ codes "wk" ∷ codes "wks" ∷ codes "w" ∷ [])
+    (in_seconds seconds_per_week)
     ++ unit_words (codes "months" ∷ codes "month" ∷ codes "M" ∷ []) (in_seconds seconds_per_month)
-    ++ unit_words (codes "years" ∷ codes "year" ∷ codes "yr" ∷ codes "yrs" ∷ codes "y" ∷ []) (in_seconds seconds_per_year)
+    ++ unit_words (codes "years" ∷ codes "year" ∷ codes "yr" ∷ codes "yrs" ∷ codes "y" ∷ [])
+    (in_seconds seconds_per_year)
 
 -- Returns the scale of a word, if it is a unit.
 unfoldable pub scale_of_word : List ℕ → Option Scale
 scale_of_word word = lookup (bytes_eq word) words
 
--- ==== Spans, and how they are written in a text. A text is its list of characters. A word is always as long as possible, because the next span begins with a digit.
+-- ==== Spans, and how they are written in a text. A text is its list of characters. A word is
+-- always as long as possible, because the next span begins with a digit.
 
 -- A span is the digits of a number, those of a fraction, if any, and a word.
 pub record SpelledSpan : Type 0 where
@@ -69,13 +78,15 @@ HoldsDigits text ds = HasOnly is_numeric text × (digits text ≡ ds)
 abbrev pub IsLetters : List ℕ → Type 0
 IsLetters text = HasOnly is_letter text × (text ≢ [])
 
--- The text is empty if there is no fraction. Otherwise it is a point followed by one or more digits, with any whitespace around and between
--- them.
+-- The text is empty if there is no fraction. Otherwise it is a point followed by one or more
+-- digits, with any whitespace around and between them.
 abbrev pub SpellsFraction : List ℕ → Option (List ℕ) → Type 0
 SpellsFraction text None = text ≡ []
-SpellsFraction text (Some ds) = (after : List ℕ) × (text ≡ byte "." ∷ after) × HoldsDigits after ds × (ds ≢ [])
+SpellsFraction text (Some ds) =
+    (after : List ℕ) × (text ≡ byte "." ∷ after) × HoldsDigits after ds × (ds ≢ [])
 
--- The text is the number of the span, which begins with a digit, its fraction, if any, its word and any whitespace, followed by `rest`.
+-- The text is the number of the span, which begins with a digit, its fraction, if any, its word and
+-- any whitespace, followed by `rest`.
 pub record Spells (text : List ℕ) (span : SpelledSpan) (rest : List ℕ) : Type 0 where
   pub number_text : List ℕ
   pub fraction_text : List ℕ
@@ -104,7 +115,8 @@ pub record SpellsAll (text : List ℕ) (spans : List SpelledSpan) : Type 0 where
 abbrev pub Reads : List ℕ → List SpelledSpan → Type 0
 Reads text spans = SpellsAll text spans × (spans ≢ [])
 
--- ==== The sum of spans, their limits, and the texts that are accepted. A text is its list of characters.
+-- ==== The sum of spans, their limits, and the texts that are accepted. A text is its list of
+-- characters.
 
 -- Returns the number of nanoseconds or of seconds in a quantity.
 abbrev pub size : Quantity → ℕ
@@ -129,9 +141,11 @@ of_kind (Seconds _) n = Seconds n
 abbrev pub times : ℕ → Quantity → Quantity
 times n x = of_kind x (n * size x)
 
--- Returns the part of a quantity that the fraction digits `ds` denote without their trailing zeros, rounded down: 0 if no digits are left.
+-- Returns the part of a quantity that the fraction digits `ds` denote without their trailing zeros,
+-- rounded down: 0 if no digits are left.
 abbrev pub part : List ℕ → Quantity → Quantity
-part ds x = let kept = without_trailing_zeros ds in of_kind x (decimal_value kept * size x / 10 ^ length kept)
+part ds x = let kept = without_trailing_zeros ds in
+    of_kind x (decimal_value kept * size x / 10 ^ length kept)
 
 -- Returns what a fraction adds: nothing if there is none or its unit has no fractions.
 abbrev pub fraction_additions : Option Quantity → Option (List ℕ) → List Quantity
@@ -141,7 +155,8 @@ fraction_additions _ _ = []
 -- Returns what a span adds if its unit has this scale: its number first, and then its fraction.
 abbrev pub additions_at : Option Scale → SpelledSpan → List Quantity
 additions_at None s = []
-additions_at (Some u) s = times (decimal_value s.number) u.whole ∷ fraction_additions u.part s.fraction
+additions_at (Some u) s =
+    times (decimal_value s.number) u.whole ∷ fraction_additions u.part s.fraction
 
 -- Returns what a span adds.
 abbrev pub additions_of : SpelledSpan → List Quantity
@@ -171,7 +186,8 @@ is_none_or passes (Some x) = passes x
 
 -- Tests whether a fraction, if there is one, has more than 19 digits without its trailing zeros.
 abbrev pub has_too_many_digits : Option (List ℕ) → Bool
-has_too_many_digits fraction = is_some_and (λ ds. nat_lt max_fraction_digits (length (without_trailing_zeros ds))) fraction
+has_too_many_digits fraction =
+    is_some_and (λ ds. nat_lt max_fraction_digits (length (without_trailing_zeros ds))) fraction
 
 -- Tests whether the number does not fit a `u64`, or the fraction has too many digits.
 abbrev pub too_long : SpelledSpan → Bool
@@ -190,25 +206,31 @@ is_whole_part n number count = fits_u64 (number * n) && (number * n % 10 ^ count
 abbrev pub has_whole_part : ℕ → List ℕ → Bool
 has_whole_part n ds = is_whole_part n (decimal_value ds) (length ds)
 
--- Tests whether a fraction, if any, without its trailing zeros, passes `has_whole_part`, or is empty if its unit has no fractions.
+-- Tests whether a fraction, if any, without its trailing zeros, passes `has_whole_part`, or is
+-- empty if its unit has no fractions.
 abbrev pub fraction_fits : Option Quantity → Option (List ℕ) → Bool
 fraction_fits _ None = true
 fraction_fits None (Some ds) = length (without_trailing_zeros ds) == 0
 fraction_fits (Some x) (Some ds) = has_whole_part (size x) (without_trailing_zeros ds)
 
--- Tests whether the number times the size of the unit fits a `u64`, and the fraction fits. A word that is not a unit has no size.
+-- Tests whether the number times the size of the unit fits a `u64`, and the fraction fits. A word
+-- that is not a unit has no size.
 abbrev pub fits : SpelledSpan → Bool
-fits s = is_none_or (λ u. fits_u64 (decimal_value s.number * size u.whole) && fraction_fits u.part s.fraction) (scale_of_word s.word)
+fits s =
+    is_none_or (λ u. fits_u64 (decimal_value s.number * size u.whole)
+    && fraction_fits u.part s.fraction) (scale_of_word s.word)
 
--- Tests whether adding a quantity to `t` nanoseconds does not overflow: the whole seconds of the new sum fit a `u64`, and if nanoseconds
--- are added, so do these plus the nanoseconds of `t` below a second.
+-- Tests whether adding a quantity to `t` nanoseconds does not overflow. The whole seconds of the
+-- new sum must fit a `u64`. If nanoseconds are added, their number plus the nanoseconds of `t`
+-- below a second must fit one, too.
 abbrev pub has_room : ℕ → Quantity → Bool
 has_room t (Nanos n) = fits_u64 (t % nanos_per_second + n) && fits_u64 ((t + n) / nanos_per_second)
 has_room t (Seconds n) = fits_u64 (t / nanos_per_second + n)
 
 -- Each addition, made after those before it, does not overflow.
 abbrev pub AllHaveRoom : List Quantity → Type 0
-AllHaveRoom xs = (before after : List Quantity) (x : Quantity) → xs ≡ before ++ x ∷ after → has_room (total before) x ≡ true
+AllHaveRoom xs = (before after : List Quantity) (x : Quantity) → xs ≡ before ++ x ∷ after
+    → has_room (total before) x ≡ true
 
 -- Each span is formed and fits, and no addition overflows.
 pub record WithinLimits (spans : List SpelledSpan) : Type 0 where
@@ -216,9 +238,11 @@ pub record WithinLimits (spans : List SpelledSpan) : Type 0 where
   pub fit : AllByRecursion (λ s. fits s ≡ true) spans
   pub room : AllHaveRoom (additions spans)
 
--- The text is exactly `0` and `d` is 0, or the text is spans within the limits and `d` is their sum.
+-- The text is exactly `0` and `d` is 0, or the text is spans within the limits and `d` is their
+-- sum.
 pub data Accepted (text : List ℕ) (d : ℕ) : Type 0 where
   -- The text is exactly `0`.
   BareZero : text ≡ bare_zero → d ≡ 0 → Accepted text d
   -- The text is spans within the limits whose sum is `d`.
-  SumOf : (spans : List SpelledSpan) → Reads text spans → WithinLimits spans → value spans ≡ d → Accepted text d
+  SumOf : (spans : List SpelledSpan) → Reads text spans → WithinLimits spans → value spans ≡ d
+      → Accepted text d

@@ -19,7 +19,8 @@ pub record Items (text : List ℕ) (spans : List SpelledSpan) (stop : Option Fau
   pub formed : AllByRecursion Formed spans
   pub ends : EndsOrStops text front spans rest stop
 
--- The view of a span: the slices that it borrows, the byte offsets of its start and of the end of its word, and the value of its number.
+-- The view of a span: the slices that it borrows, the byte offsets of its start and of the end of
+-- its word, and the value of its number.
 pub record SpanView : Type 0 where
   pub number : List ℕ
   pub fraction : Option (List ℕ)
@@ -28,7 +29,8 @@ pub record SpanView : Type 0 where
   pub end : ℕ
   pub value : ℕ
 
--- The slice is the text without its leading and trailing whitespace, and begins and ends with a digit.
+-- The slice is the text without its leading and trailing whitespace, and begins and ends with a
+-- digit.
 pub record IsDigitSlice (text slice : List ℕ) : Type 0 where
   pub before : List ℕ
   pub after : List ℕ
@@ -38,10 +40,12 @@ pub record IsDigitSlice (text slice : List ℕ) : Type 0 where
   pub first_digit : begins is_digit slice ≡ true
   pub last_digit : ends is_digit slice ≡ true
 
--- There is no slice, and the text is empty; or the text begins with a point, and the slice goes from the first to the last digit after it.
+-- There is no slice, and the text is empty; or the text begins with a point, and the slice goes
+-- from the first to the last digit after it.
 abbrev pub IsFractionView : List ℕ → Option (List ℕ) → Type 0
 IsFractionView text None = text ≡ []
-IsFractionView text (Some slice) = (after : List ℕ) × (text ≡ byte "." ∷ after) × IsDigitSlice after slice
+IsFractionView text (Some slice) =
+    (after : List ℕ) × (text ≡ byte "." ∷ after) × IsDigitSlice after slice
 
 -- The text from `here` on is the span followed by `next`, and `x` is the view of the span.
 pub record IsSpanView (text here : List ℕ) (s : SpelledSpan) (x : SpanView) (next : List ℕ) : Type 0 where
@@ -56,7 +60,8 @@ pub record IsSpanView (text here : List ℕ) (s : SpelledSpan) (x : SpanView) (n
 -- The text from `here` to `end` represents the spans, and each view is that of its span.
 abbrev pub AreSpanViews : List ℕ → List ℕ → List SpelledSpan → List SpanView → List ℕ → Type 0
 AreSpanViews text here [] [] end = here ≡ end
-AreSpanViews text here (s ∷ ss) (x ∷ xs) end = (next : List ℕ) × IsSpanView text here s x next × AreSpanViews text next ss xs end
+AreSpanViews text here (s ∷ ss) (x ∷ xs) end =
+    (next : List ℕ) × IsSpanView text here s x next × AreSpanViews text next ss xs end
 AreSpanViews text here _ _ end = ⊥
 
 -- Returns the list of what was found, followed by the fault, if there is one.

@@ -28,7 +28,8 @@ ExactlyOne {A} IsSo = (x : A) × IsSo x × ((other : A) → IsSo other → other
 abbrev pub IsDateOfDay : ℕ → Date → Type 0
 IsDateOfDay n d = IsDate d × (day_of d ≡ n)
 
--- ==== Laws of accepted texts: whitespace can be removed, texts can be joined, and spans can be reordered. A text is its list of characters.
+-- ==== Laws of accepted texts: whitespace can be removed, texts can be joined, and spans can be
+-- reordered. A text is its list of characters.
 
 -- Removes the whitespace of a text.
 abbrev pub without_whitespace : List ℕ → List ℕ
@@ -36,7 +37,8 @@ without_whitespace text = filter (λ c. not (is_whitespace c)) text
 
 -- The text is accepted if and only if it is exactly `0`, or spans within the limits.
 abbrev pub IsZeroOrSpans : List ℕ → Type 0
-IsZeroOrSpans text = ((v : ℕ) × Accepted text v) ↔ ((text ≡ bare_zero) ⊎ ((spans : List SpelledSpan) × Reads text spans × WithinLimits spans))
+IsZeroOrSpans text = ((v : ℕ) × Accepted text v)
+    ↔ ((text ≡ bare_zero) ⊎ ((spans : List SpelledSpan) × Reads text spans × WithinLimits spans))
 
 -- The text is these spans, and is accepted with this value.
 abbrev pub AcceptedAs : List ℕ → List SpelledSpan → ℕ → Type 0
@@ -54,14 +56,17 @@ pub record AreReordered (a b : List ℕ) : Type 0 where
 pub record KeepsValueWithoutWhitespace (text : List ℕ) : Type 0 where
   pub value : (v : ℕ) → Accepted text v → Accepted (without_whitespace text) v
   -- The same holds of the results of parsing.
-  pub answer : (v : ℕ) → duration_answer text ≡ Ok v → duration_answer (without_whitespace text) ≡ Ok v
+  pub answer : (v : ℕ) → duration_answer text ≡ Ok v
+      → duration_answer (without_whitespace text) ≡ Ok v
 
--- If two accepted texts other than `0` are joined, the result is the sum, or an overflow if an addition does not fit.
+-- If two accepted texts other than `0` are joined, the result is the sum, or an overflow if an
+-- addition does not fit.
 pub record AddWhenJoined (a b : List ℕ) : Type 0 where
   -- Each of the texts is accepted if and only if it is exactly `0`, or spans within the limits.
   pub first : IsZeroOrSpans a
   pub second : IsZeroOrSpans b
-  -- The joined text is accepted with the sum if and only if no addition overflows, where those of the second text follow those of the first.
+  -- The joined text is accepted with the sum if and only if no addition overflows, where those of
+  -- the second text follow those of the first.
   pub sum : (ss ts : List SpelledSpan) (u v : ℕ) → AcceptedAs a ss u → AcceptedAs b ts v
       → Accepted (a ++ b) (u + v) ↔ AllHaveRoom (additions ss ++ additions ts)
   -- The fault of the joined text is an overflow if and only if an addition overflows.
@@ -71,10 +76,12 @@ pub record AddWhenJoined (a b : List ℕ) : Type 0 where
   pub one : (u v : ℕ) → Accepted a u → Accepted b v → a ≢ bare_zero → b ≢ bare_zero
       → Accepted (a ++ b) (u + v) ⊎ HasFault (a ++ b) NumberOverflow
   -- The same holds of the results of parsing.
-  pub answer : (u v : ℕ) → duration_answer a ≡ Ok u → duration_answer b ≡ Ok v → a ≢ bare_zero → b ≢ bare_zero
+  pub answer : (u v : ℕ) → duration_answer a ≡ Ok u → duration_answer b ≡ Ok v → a ≢ bare_zero
+      → b ≢ bare_zero
       → (duration_answer (a ++ b) ≡ Ok (u + v)) ⊎ (duration_answer (a ++ b) ≡ Err NumberOverflow)
 
--- Two accepted texts whose spans are the same up to their order have equal values. The text `0` has no spans.
+-- Two accepted texts whose spans are the same up to their order have equal values. The text `0` has
+-- no spans.
 pub record KeepValueReordered (a b : List ℕ) : Type 0 where
   pub value : (ss ts : List SpelledSpan) (u v : ℕ) → Reads a ss → Reads b ts → IsPermutation ss ts
       → Accepted a u → Accepted b v → u ≡ v
@@ -82,12 +89,14 @@ pub record KeepValueReordered (a b : List ℕ) : Type 0 where
   pub answer : (ss ts : List SpelledSpan) (u v : ℕ) → Reads a ss → Reads b ts → IsPermutation ss ts
       → duration_answer a ≡ Ok u → duration_answer b ≡ Ok v → u ≡ v
   -- Therefore the results of parsing two such texts are equal, whatever their spans are.
-  pub alike : AreReordered a b → (u v : ℕ) → duration_answer a ≡ Ok u → duration_answer b ≡ Ok v → u ≡ v
+  pub alike : AreReordered a b → (u v : ℕ) → duration_answer a ≡ Ok u → duration_answer b ≡ Ok v
+      → u ≡ v
   pub zero : (spans : List SpelledSpan) → ¬ (Reads bare_zero spans)
 
 -- ==== Texts that slices tile. A text is its list of characters.
 
--- Returns the slices of an item from left to right: the number, the fraction, if any, and the unit of a span, or none for an error.
+-- Returns the slices of an item from left to right: the number, the fraction, if any, and the unit
+-- of a span, or none for an error.
 abbrev pub slices_of : Result SpanView Fault → List (List ℕ)
 slices_of (Ok span) = span.number ∷ option_to_list span.fraction ++ span.unit ∷ []
 slices_of (Err e) = []
@@ -96,20 +105,24 @@ slices_of (Err e) = []
 abbrev pub is_gap : ℕ → Bool
 is_gap c = is_whitespace c || is_point c
 
--- The text is the slices in this order, with only whitespace and points before, between and after them. So each character of the text lies
--- in exactly one slice, or in none and is whitespace or a point.
+-- The text is the slices in this order, with only whitespace and points before, between and after
+-- them. So each character of the text lies in exactly one slice, or in none and is whitespace or a
+-- point.
 abbrev pub IsTiled : List ℕ → List (List ℕ) → Type 0
 IsTiled text [] = HasOnly is_gap text
-IsTiled text (slice ∷ slices) = (gap : List ℕ) × (after : List ℕ) × (text ≡ gap ++ (slice ++ after)) × HasOnly is_gap gap × IsTiled after slices
+IsTiled text (slice ∷ slices) = (gap : List ℕ) × (after : List ℕ) × (text ≡ gap ++ (slice ++ after))
+    × HasOnly is_gap gap × IsTiled after slices
 
--- ==== The outcome of a text: exactly one value or exactly one error, at most one list of spans and one list of items; and how its items determine the outcome. A text is its list of characters.
+-- ==== The outcome of a text: exactly one value or exactly one error, at most one list of spans and
+-- one list of items; and how its items determine the outcome. A text is its list of characters.
 
 -- The outcome of a text is the value with which it is accepted, or its fault.
 abbrev pub IsOutcome : List ℕ → Result ℕ Fault → Type 0
 IsOutcome text (Ok v) = Accepted text v
 IsOutcome text (Err e) = HasFault text e
 
--- A text has exactly one value or fault, which is the result of parsing it, exactly one list of items, and at most one list of spans.
+-- A text has exactly one value or fault, which is the result of parsing it, exactly one list of
+-- items, and at most one list of spans.
 pub record HasOneOutcome (text : List ℕ) : Type 0 where
   -- The text has exactly one value and no fault, or exactly one fault and no value.
   pub outcome : ExactlyOne (IsOutcome text)
@@ -125,33 +138,44 @@ pub record HasOneOutcome (text : List ℕ) : Type 0 where
 pub record ItemsDecide (text : List ℕ) : Type 0 where
   -- The text has exactly one list of spans, with the error that stops them, if any.
   pub one : ExactlyOne (λ (list : List SpelledSpan × Option Fault). Items text list.0 list.1)
-  -- The text is accepted if and only if no error stops the spans and they are within the limits. Its value is then their sum.
-  pub accepted : (spans : List SpelledSpan) (stop : Option Fault) → Items text spans stop → text ≢ bare_zero
+  -- The text is accepted if and only if no error stops the spans and they are within the limits.
+  -- Its value is then their sum.
+  pub accepted : (spans : List SpelledSpan) (stop : Option Fault) → Items text spans stop
+      → text ≢ bare_zero
       → (v : ℕ) → Accepted text v ↔ ((stop ≡ None) × WithinLimits spans × (value spans ≡ v))
   -- If the spans are within the limits, the fault of the text is the one that stops them.
-  pub stopped : (spans : List SpelledSpan) (e : Fault) → Items text spans (Some e) → text ≢ bare_zero
+  pub stopped : (spans : List SpelledSpan) (e : Fault) → Items text spans (Some e)
+      → text ≢ bare_zero
       → WithinLimits spans → HasFault text e
   -- Therefore, if the first item is an error, it is the result of parsing.
-  pub first : (listed others : List (Result SpanView Fault)) (e : Fault) → AreItems text listed → listed ≡ Err e ∷ others
+  pub first : (listed others : List (Result SpanView Fault)) (e : Fault) → AreItems text listed
+      → listed ≡ Err e ∷ others
       → text ≢ bare_zero → duration_answer text ≡ Err e
   -- If the spans are not within the limits, the fault is an overflow, whatever stops them.
-  pub too_large : (spans : List SpelledSpan) (stop : Option Fault) → Items text spans stop → text ≢ bare_zero
+  pub too_large : (spans : List SpelledSpan) (stop : Option Fault) → Items text spans stop
+      → text ≢ bare_zero
       → ¬ (WithinLimits spans) → HasFault text NumberOverflow
 
 -- A text has exactly one list of items, and their slices tile the text up to where the spans stop.
 pub record ItemsTile (text : List ℕ) : Type 0 where
   pub one : ExactlyOne (AreItems text)
   -- Therefore any two such lists are equal.
-  pub same : (listed others : List (Result SpanView Fault)) → AreItems text listed → AreItems text others → others ≡ listed
-  -- Up to where the spans stop, each character lies in exactly one slice of one span, or in none and is whitespace or a point.
-  pub front : (listed : List (Result SpanView Fault)) (are : AreItems text listed) → IsTiled are.items.front (flat_map slices_of listed)
+  pub same : (listed others : List (Result SpanView Fault)) → AreItems text listed
+      → AreItems text others → others ≡ listed
+  -- Up to where the spans stop, each character lies in exactly one slice of one span, or in none
+  -- and is whitespace or a point.
+  pub front : (listed : List (Result SpanView Fault)) (are : AreItems text listed)
+      → IsTiled are.items.front (flat_map slices_of listed)
   -- If no item is an error, this holds for each character of the text.
-  pub whole : (listed : List (Result SpanView Fault)) → AreItems text listed → list_all is_ok listed ≡ true
+  pub whole : (listed : List (Result SpanView Fault)) → AreItems text listed
+      → list_all is_ok listed ≡ true
       → IsTiled text (flat_map slices_of listed)
 
--- ==== The laws of printed durations. A text is its list of bytes, which `chars` decodes into characters.
+-- ==== The laws of printed durations. A text is its list of bytes, which `chars` decodes into
+-- characters.
 
--- A duration has exactly one canonical text, which is the printed one, and which parses to the duration.
+-- A duration has exactly one canonical text, which is the printed one, and which parses to the
+-- duration.
 pub record PrintsAndReads (d : ℕ) : Type 0 where
   pub one : ExactlyOne (IsCanonicalText d)
   pub printed : IsCanonicalText d (duration_text d)
@@ -161,42 +185,52 @@ pub record PrintsAndReads (d : ℕ) : Type 0 where
   -- Therefore parsing it returns `d`.
   pub answer : duration_answer (chars (duration_text d)) ≡ Ok d
 
--- The canonical texts of two durations, and so the printed ones, are equal if and only if the durations are.
+-- The canonical texts of two durations, and so the printed ones, are equal if and only if the
+-- durations are.
 pub record TextsTellApart (a b : ℕ) : Type 0 where
-  pub canon : (bytes other : List ℕ) → IsCanonicalText a bytes → IsCanonicalText b other → ((bytes ≡ other) ↔ (a ≡ b))
+  pub canon : (bytes other : List ℕ) → IsCanonicalText a bytes → IsCanonicalText b other
+      → ((bytes ≡ other) ↔ (a ≡ b))
   pub text : (duration_text a ≡ duration_text b) ↔ (a ≡ b)
 
 -- A canonical text has at most 64 bytes, and counts at most 11 months and 30 days.
 pub record IsBounded (d : ℕ) : Type 0 where
   pub length : (bytes : List ℕ) → IsCanonicalText d bytes → length bytes ≤ 64
-  pub counts : (counts : List ℕ) → AreCounts d counts → ((slice_index counts 1 ≤ 11) × (slice_index counts 2 ≤ 30))
+  pub counts : (counts : List ℕ) → AreCounts d counts
+      → ((slice_index counts 1 ≤ 11) × (slice_index counts 2 ≤ 30))
 
--- The canonical text of an accepted text has the same value and is its own canonical text. `canonical` returns it, or the fault.
+-- The canonical text of an accepted text has the same value and is its own canonical text.
+-- `canonical` returns it, or the fault.
 pub record IsCanonicalAgain (s : List ℕ) : Type 0 where
   -- An accepted text has a canonical text.
   pub some : (v : ℕ) → Accepted (chars s) v → (printed : List ℕ) × IsCanonicalOf s printed
   -- The canonical text is accepted with the same value.
-  pub value : (v : ℕ) (printed : List ℕ) → Accepted (chars s) v → IsCanonicalOf s printed → Accepted (chars printed) v
+  pub value : (v : ℕ) (printed : List ℕ) → Accepted (chars s) v → IsCanonicalOf s printed
+      → Accepted (chars printed) v
   -- It is its own canonical text, and has no other.
-  pub again : (printed again : List ℕ) → IsCanonicalOf s printed → (IsCanonicalOf printed again ↔ (again ≡ printed))
+  pub again : (printed again : List ℕ) → IsCanonicalOf s printed
+      → (IsCanonicalOf printed again ↔ (again ≡ printed))
   -- The same two properties hold of the results of the calls.
   pub answer : (t : List ℕ) → canonical_answer (chars s) ≡ Ok t → canonical_answer (chars t) ≡ Ok t
-  pub reads : (v : ℕ) (t : List ℕ) → duration_answer (chars s) ≡ Ok v → canonical_answer (chars s) ≡ Ok t → duration_answer (chars t) ≡ Ok v
+  pub reads : (v : ℕ) (t : List ℕ) → duration_answer (chars s) ≡ Ok v
+      → canonical_answer (chars s) ≡ Ok t → duration_answer (chars t) ≡ Ok v
   -- The result is the canonical text, or the first error.
   pub text : (t : List ℕ) → (canonical_answer (chars s) ≡ Ok t) ↔ IsCanonicalOf s t
   pub fault : (e : Fault) → (canonical_answer (chars s) ≡ Err e) ↔ HasFault (chars s) e
 
--- ==== The texts that were accepted while trailing zeros of a fraction counted towards its limits. The Greek letter mu, U+03BC, was not a letter then; it is one in these definitions, so they accept more texts. A text is its list of characters.
+-- ==== The texts that were accepted while trailing zeros of a fraction counted towards its limits.
+-- The Greek letter mu, U+03BC, was not a letter then; it is one in these definitions, so they
+-- accept more texts. A text is its list of characters.
 
--- While trailing zeros counted, a fraction had at most 19 digits and denoted a whole number of nanoseconds or of seconds, and nanoseconds
--- had no fraction.
+-- While trailing zeros counted, a fraction had at most 19 digits and denoted a whole number of
+-- nanoseconds or of seconds, and nanoseconds had no fraction.
 abbrev pub OlderFraction : Option Quantity → Option (List ℕ) → Type 0
 OlderFraction _ None = ⊤
 OlderFraction None (Some ds) = ⊥
-OlderFraction (Some x) (Some ds) = (length ds ≤ max_fraction_digits) × (has_whole_part (size x) ds ≡ true)
+OlderFraction (Some x) (Some ds) =
+    (length ds ≤ max_fraction_digits) × (has_whole_part (size x) ds ≡ true)
 
--- The word was a unit, the number and its product with the size of the unit fit a `u64`, and the fraction was within its limits with all of
--- its digits.
+-- The word was a unit, the number and its product with the size of the unit fit a `u64`, and the
+-- fraction was within its limits with all of its digits.
 pub record OlderFormed (s : SpelledSpan) : Type 0 where
   pub unit : Scale
   pub word : scale_of_word s.word ≡ Some unit
@@ -204,7 +238,8 @@ pub record OlderFormed (s : SpelledSpan) : Type 0 where
   pub product : decimal_value s.number * size unit.whole ≤ u64_max
   pub fraction : OlderFraction unit.part s.fraction
 
--- Returns the part of a quantity that all of the fraction digits `ds` denote, trailing zeros included, rounded down.
+-- Returns the part of a quantity that all of the fraction digits `ds` denote, trailing zeros
+-- included, rounded down.
 abbrev pub older_part : List ℕ → Quantity → Quantity
 older_part ds x = of_kind x (decimal_value ds * size x / 10 ^ length ds)
 
@@ -216,7 +251,8 @@ older_fraction_additions _ _ = []
 -- Returns what a span added if its unit had this scale: its number first, and then its fraction.
 abbrev pub older_additions_at : Option Scale → SpelledSpan → List Quantity
 older_additions_at None s = []
-older_additions_at (Some u) s = times (decimal_value s.number) u.whole ∷ older_fraction_additions u.part s.fraction
+older_additions_at (Some u) s =
+    times (decimal_value s.number) u.whole ∷ older_fraction_additions u.part s.fraction
 
 -- Returns what a span added.
 abbrev pub older_additions_of : SpelledSpan → List Quantity
@@ -235,10 +271,12 @@ pub data AcceptedWithZeros (text : List ℕ) (v : ℕ) : Type 0 where
   -- The text was exactly `0`.
   OlderZero : text ≡ bare_zero → v ≡ 0 → AcceptedWithZeros text v
   -- The text was spans within the limits whose sum is `v`.
-  OlderSum : (spans : List SpelledSpan) → Reads text spans → AllByRecursion OlderFormed spans → AllHaveRoom (older_additions spans)
+  OlderSum : (spans : List SpelledSpan) → Reads text spans → AllByRecursion OlderFormed spans
+      → AllHaveRoom (older_additions spans)
       → older_value spans ≡ v → AcceptedWithZeros text v
 
--- A text that was accepted while trailing zeros of a fraction counted is still accepted with the same value.
+-- A text that was accepted while trailing zeros of a fraction counted is still accepted with the
+-- same value.
 pub record KeepsValueWithZeros (text : List ℕ) : Type 0 where
   pub value : (v : ℕ) → AcceptedWithZeros text v → Accepted text v
   pub answer : (v : ℕ) → AcceptedWithZeros text v → duration_answer text ≡ Ok v
@@ -252,7 +290,8 @@ pub record KeepsValueWithZeros (text : List ℕ) : Type 0 where
 abbrev pub IsMarked : List ℕ → Type 0
 IsMarked b = (slice_index b 10 ≡ byte "T") × IsTrue (ends_in_zone b)
 
--- The printed texts of two moments with the same number of digits compare, byte by byte, like the moments rounded down to these digits.
+-- The printed texts of two moments with the same number of digits compare, byte by byte, like the
+-- moments rounded down to these digits.
 abbrev pub PrintInOrder : ℤ → ℤ → Type 0
 PrintInOrder a b =
     (k : ℕ) (x y : List ℕ) → IsPrinted a k x → IsPrinted b k y
@@ -263,8 +302,8 @@ pub record ReadsAs (bytes : List ℕ) (t : ℤ) : Type 0 where
   pub strict : IsStrictMoment bytes t
   pub weak : IsWeakMoment bytes t
 
--- The text represents parts if and only if no check fails, and then exactly one set of them. The result of parsing is their moment, or the
--- error of the first check that fails.
+-- The text represents parts if and only if no check fails, and then exactly one set of them. The
+-- result of parsing is their moment, or the error of the first check that fails.
 pub record HasOneTimestamp (checks : List (Bool × TimestampError)) (Represents : Fields → Type 0)
     (answer : Result ℤ TimestampError) : Type 0 where
   pub some : ((f : Fields) × Represents f) ↔ (first_failed checks ≡ None)
@@ -274,21 +313,26 @@ pub record HasOneTimestamp (checks : List (Bool × TimestampError)) (Represents 
 
 -- The strict form is the weak form with a `T` and a zone.
 pub record IsWeakAndMarked (text : List ℕ) : Type 0 where
-  -- A text represents parts in the strict form if and only if it does so in the weak form and has a `T` and a zone.
+  -- A text represents parts in the strict form if and only if it does so in the weak form and has a
+  -- `T` and a zone.
   pub parts : (f : Fields) → IsStrict text f ↔ (IsWeak text f × IsMarked text)
   -- The same holds of a moment.
   pub moment : (t : ℤ) → IsStrictMoment text t ↔ (IsWeakMoment text t × IsMarked text)
-  -- A text that is parsed in the strict form is also parsed in the weak form, and has a `T` and a zone.
+  -- A text that is parsed in the strict form is also parsed in the weak form, and has a `T` and a
+  -- zone.
   pub weak : (t : ℤ) → strict_answer text ≡ Ok t → weak_answer text ≡ Ok t
   pub marked : (t : ℤ) → strict_answer text ≡ Ok t → IsMarked text
-  -- A text that is parsed in the weak form, and has a `T` and a zone, is also parsed in the strict form.
+  -- A text that is parsed in the weak form, and has a `T` and a zone, is also parsed in the strict
+  -- form.
   pub strict : (t : ℤ) → weak_answer text ≡ Ok t → IsMarked text → strict_answer text ≡ Ok t
 
--- A moment in 1970 to 9999 has exactly one printed text with `k` digits. `Display` writes it, and it parses to the moment rounded down.
+-- A moment in 1970 to 9999 has exactly one printed text with `k` digits. `Display` writes it, and
+-- it parses to the moment rounded down.
 pub record MomentPrintsAndReads (t : ℤ) (k : ℕ) : Type 0 where
   pub one : IsPrintable t → ExactlyOne (IsPrinted t k)
   -- `Display` writes this text.
-  pub displayed : (text : List ℕ) → (moment_text t k ≡ Some text) ↔ (IsPrintable t × IsPrinted t k text)
+  pub displayed : (text : List ℕ) → (moment_text t k ≡ Some text)
+      ↔ (IsPrintable t × IsPrinted t k text)
   -- The text represents the moment, rounded down, in both forms.
   pub reads : (text : List ℕ) → IsPrinted t k text → ReadsAs text (cut t k)
   -- Therefore both parsers return the moment, rounded down.

@@ -11,8 +11,8 @@ pub mod Items
 pub mod PrintedDurations
 -- The text of a timestamp.
 pub mod Timestamps
--- The result of each call as one function of its arguments. Public contracts cite these functions, and theorems in `proofs` relate them
--- to the definitions above.
+-- The result of each call as one function of its arguments. Public contracts cite these functions,
+-- and theorems in `proofs` relate them to the definitions above.
 pub mod Walks
 pub mod DurationResults
 pub mod SpanResults
@@ -20,6 +20,7 @@ pub mod TimestampResults
 pub mod Buffers
 -- The statements of the laws. The functions of `src/laws` have them as contracts, which are proved.
 pub mod Laws
--- The definitions that the contracts of private functions cite. Public contracts do not depend on them.
+-- The definitions that the contracts of private functions cite. Public contracts do not depend on
+-- them.
 pub mod PrivateTypes
 pub mod PrivateFunctions

@@ -1,4 +1,5 @@
--- The definitions that a caller's contracts need, in one module. Each has a comment where it is defined.
+-- The definitions that a caller's contracts need, in one module. Each has a comment where it is
+-- defined.
 
 -- Existence and uniqueness.
 pub use Rattle.humantime.specs.Laws.{ExactlyOne}

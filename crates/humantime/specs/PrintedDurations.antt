@@ -1,4 +1,5 @@
--- A duration as nine counts, its printed text, and the canonical text of the duration that a text denotes. A text is its list of bytes.
+-- A duration as nine counts, its printed text, and the canonical text of the duration that a text
+-- denotes. A text is its list of bytes.
 use Rattle.std.specs.Prelude.{◌≡◌, ℕ, ◌+◌, ◌*◌, Bool, true, false, ◌&&◌, List, [], ◌∷◌, ◌++◌, length, map, codes, decimal, nat_lt, if◌then◌else◌, chars, IsTrue}
 use Rattle.std.specs.List.{filter, zip, join_with_byte}
 use Rattle.std.specs.Str.{byte}
@@ -8,7 +9,8 @@ use Rattle.humantime.specs.Characters.{micro_suffix}
 use Rattle.humantime.specs.Values.{nanos_per_micro, nanos_per_milli, nanos_per_second, seconds_per_minute, seconds_per_hour, seconds_per_day, seconds_per_month, seconds_per_year}
 use Rattle.humantime.specs.Durations.{Accepted}
 
--- The lengths of a year, month, day, hour, minute, second, millisecond, microsecond and nanosecond, in nanoseconds.
+-- The lengths of a year, month, day, hour, minute, second, millisecond, microsecond and nanosecond,
+-- in nanoseconds.
 abbrev pub weights : List ℕ
 weights =
     seconds_per_year * nanos_per_second ∷ seconds_per_month * nanos_per_second ∷ seconds_per_day * nanos_per_second
@@ -21,11 +23,13 @@ weighted_sum [] counts = 0
 weighted_sum (w ∷ ws) [] = 0
 weighted_sum (w ∷ ws) (c ∷ cs) = w * c + weighted_sum ws cs
 
--- The counts, one for each weight, have the weighted sum `d`, and are lexicographically the greatest such counts.
+-- The counts, one for each weight, have the weighted sum `d`, and are lexicographically the
+-- greatest such counts.
 pub record AreCounts (d : ℕ) (counts : List ℕ) : Type 0 where
   pub as_many : length counts ≡ length weights
   pub sum : weighted_sum weights counts ≡ d
-  pub greatest : (others : List ℕ) → length others ≡ length weights → weighted_sum weights others ≡ d
+  pub greatest : (others : List ℕ) → length others ≡ length weights
+      → weighted_sum weights others ≡ d
       → IsTrue (is_le (slice_cmp nat_cmp others counts))
 
 -- A suffix is the text that follows a count, and whether it takes an `s` in the plural.
@@ -35,7 +39,8 @@ Suffix = List ℕ × Bool
 -- The suffixes of the nine counts.
 abbrev pub suffixes : List Suffix
 suffixes =
-    (codes "year", true) ∷ (codes "month", true) ∷ (codes "day", true) ∷ (codes "h", false) ∷ (codes "m", false) ∷ (codes "s", false)
+    (codes "year", true) ∷ (codes "month", true) ∷ (codes "day", true) ∷ (codes "h", false)
+    ∷ (codes "m", false) ∷ (codes "s", false)
     ∷ (codes "ms", false) ∷ (micro_suffix, false) ∷ (codes "ns", false) ∷ []
 
 -- Returns a count in decimal with its suffix.
@@ -44,14 +49,16 @@ printed_count n s = decimal n ++ s.0 ++ (if s.1 && nat_lt 1 n then codes "s" els
 
 -- Returns the texts of the counts that are not zero, each with its suffix.
 abbrev pub printed_counts : List ℕ → List Suffix → List (List ℕ)
-printed_counts counts ends = map (λ c. printed_count c.0 c.1) (filter (λ c. nat_lt 0 c.0) (zip counts ends))
+printed_counts counts ends =
+    map (λ c. printed_count c.0 c.1) (filter (λ c. nat_lt 0 c.0) (zip counts ends))
 
 -- Joins texts with single spaces, and returns `0s` if there are none.
 abbrev pub joined_by_space : List (List ℕ) → List ℕ
 joined_by_space [] = codes "0s"
 joined_by_space ps = join_with_byte (byte " ") ps
 
--- The canonical text of `d` nanoseconds is its nonzero counts with suffixes, joined with single spaces, or `0s`.
+-- The canonical text of `d` nanoseconds is its nonzero counts with suffixes, joined with single
+-- spaces, or `0s`.
 pub record IsCanonicalText (d : ℕ) (bytes : List ℕ) : Type 0 where
   pub counts : List ℕ
   pub are : AreCounts d counts

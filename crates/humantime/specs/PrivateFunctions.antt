@@ -1,4 +1,5 @@
--- What private functions return: the readers of a span and of a timestamp, and the writer of a duration.
+-- What private functions return: the readers of a span and of a timestamp, and the writer of a
+-- duration.
 use Rattle.std.specs.Prelude.{◌≡◌, true, false, ℕ, nat_lt, List, [], ◌∷◌, Option, Some, None, Result, Ok, Err, if◌then◌else◌, option_map, chars, ◌*◌, ◌/◌, ◌^◌, ◌==◌, ◌+◌, ◌<◌, Bool, ◌&&◌, nat_le, pos, ℤ, length, drop, ◌≤◌, ◌++◌, take, decimal, bytes_eq, ltb, not, filter, SomeIff}
 use Rattle.std.specs.Borrow.{Bor}
 use Rattle.std.specs.Result.{result_map_both}
@@ -46,14 +47,17 @@ scale_from seconds word = lookup (bytes_eq word) (words_from seconds)
 
 -- ==== What the readers of the parts of a span return, as functions of the characters of a text.
 
--- Returns the length in bytes of the whitespace character at the start of a text, or 0 if there is none.
+-- Returns the length in bytes of the whitespace character at the start of a text, or 0 if there is
+-- none.
 abbrev pub whitespace_len : List ℕ → ℕ
 whitespace_len [] = 0
 whitespace_len (c ∷ cs) = if is_whitespace c then len_utf8 c else 0
 
--- The result is the offset after the whitespace character at offset `at`, or `None` if there is none.
+-- The result is the offset after the whitespace character at offset `at`, or `None` if there is
+-- none.
 abbrev pub IsAfterWhitespace : List ℕ → ℕ → Option ℕ → Type 0
-IsAfterWhitespace text at result = SomeIff result (0 < whitespace_len (chars (drop at text))) (at + whitespace_len (chars (drop at text)))
+IsAfterWhitespace text at result = SomeIff result (0 < whitespace_len (chars (drop at text)))
+    (at + whitespace_len (chars (drop at text)))
 
 -- What a reader returned: the view of the value, and the characters of the rest.
 abbrev pub read_view : {A B : Type 0} → (A → B) → Option (A × Bor (List ℕ)) → Option (B × List ℕ)
@@ -66,9 +70,11 @@ number_view n = (chars n.text.now, option_map (λ f. chars f.1.now) n.fraction)
 -- Reads the number at the start of a text. A number that does not fit in a `u64` is too long.
 abbrev pub read_number : List ℕ → Option ((List ℕ × Option (List ℕ)) × List ℕ)
 read_number text =
-    if nat_lt u64_max (decimal_value (number_of text)) then None else Some ((take_while is_numeric text, None), after_number text)
+    if nat_lt u64_max (decimal_value (number_of text)) then None
+    else Some ((take_while is_numeric text, None), after_number text)
 
--- Reads the digits of a fraction at the start of a text, if any. More than 19 before the trailing zeros are too long.
+-- Reads the digits of a fraction at the start of a text, if any. More than 19 before the trailing
+-- zeros are too long.
 abbrev pub read_fraction : List ℕ → Option (((ℕ × ℕ × ℕ) × List ℕ) × List ℕ)
 read_fraction text =
     if has_too_many_digits (Some (number_of text)) then None
@@ -79,7 +85,8 @@ abbrev pub after_space : List ℕ → List ℕ
 after_space [] = []
 after_space (c ∷ cs) = if is_whitespace c then cs else c ∷ cs
 
--- Reads up to one whitespace character after a word. A character other than a digit or whitespace must not follow a word.
+-- Reads up to one whitespace character after a word. A character other than a digit or whitespace
+-- must not follow a word.
 abbrev pub skip_span_end : List ℕ → Option (List ℕ)
 skip_span_end text = if may_follow_span text then Some (after_space text) else None
 
@@ -91,31 +98,36 @@ read_span text rest = elim (fault_at text rest) [
 ]
 
 -- The view of a span that was read and the characters of the rest, or the fault of the error.
-abbrev pub span_result : Result (Span × Bor (List ℕ)) DurationError → Result (SpanView × List ℕ) Fault
+abbrev pub span_result : Result (Span × Bor (List ℕ)) DurationError
+    → Result (SpanView × List ℕ) Fault
 span_result r = result_map_both (λ x. (span_view x.0, chars x.1.now)) fault_of r
 
 -- Returns the span that the slices of a `Span` hold.
 abbrev pub spelled_in : Span → SpelledSpan
 spelled_in s = let x = span_view s in spelled x.number x.fraction x.unit
 
--- The number at the start of `rest` and its fraction, if any, were read, and `after` follows them: these are their texts, neither is too
--- long, and no point is bare.
+-- The number at the start of `rest` and its fraction, if any, were read, and `after` follows them:
+-- these are their texts, neither is too long, and no point is bare.
 pub record IsNumberAt (rest : List ℕ) (number : Number) (after : List ℕ) : Type 0 where
   pub digit : begins is_digit (chars rest) ≡ true
   pub short : too_long (span_of (chars rest)) ≡ false
   pub pointed : has_bare_point (chars rest) ≡ false
-  pub texts : number_view number ≡ (take_while is_numeric (chars rest), option_map (take_while is_numeric) (after_point (after_number (chars rest))))
+  pub texts : number_view number ≡ (
+    take_while is_numeric (chars rest),
+    option_map (take_while is_numeric) (after_point (after_number (chars rest))),
+  )
   pub after_is : chars after ≡ after_fraction (chars rest)
   pub tail : IsTail rest after
 
 -- ==== Quantities added to a duration of `t` nanoseconds. `None` means that a limit is broken.
 
--- Returns the sum of `t` and `number / 10^count` of a quantity, or `None` if that is not a whole number or on overflow. If the unit has no
--- fractions, there must be no digits.
+-- Returns the sum of `t` and `number / 10^count` of a quantity, or `None` if that is not a whole
+-- number or on overflow. If the unit has no fractions, there must be no digits.
 abbrev pub add_part : ℕ → Option Quantity → ℕ → ℕ → Option ℕ
 add_part t None number count = if count == 0 then Some t else None
 add_part t (Some x) number count =
-    if is_whole_part (size x) number count then add t (of_kind x (number * size x / 10 ^ count)) else None
+    if is_whole_part (size x) number count then add t (of_kind x (number * size x / 10 ^ count))
+    else None
 
 -- ==== The results of private functions that parse and print timestamps.
 
@@ -163,7 +175,8 @@ abbrev pub joined_after : List ℕ → List (List ℕ) → List ℕ
 joined_after [] ps = join_with_byte (byte " ") ps
 joined_after (b ∷ bs) ps = join_with_byte (byte " ") ((b ∷ bs) ∷ ps)
 
--- Returns an upper bound for the number of bytes of a count: its digits, its suffix and the `s` of the plural.
+-- Returns an upper bound for the number of bytes of a count: its digits, its suffix and the `s` of
+-- the plural.
 abbrev pub most_bytes : ℕ → Suffix → ℕ
 most_bytes count suffix = length (decimal count) + length suffix.0 + (if suffix.1 then 1 else 0)
 

@@ -1,4 +1,5 @@
--- What a span and an item borrow from their text, and the items that an iterator over spans has not returned yet.
+-- What a span and an item borrow from their text, and the items that an iterator over spans has not
+-- returned yet.
 use Rattle.std.specs.Prelude.{◌≡◌, ℕ, ◌==◌, List, [], Option, Result, Ok, Err, IfSome, MatchResult, length, if◌then◌else◌, option_map, chars}
 use Rattle.std.specs.Iterator.{YieldsFirstBy}
 use Rattle.std.specs.Str.{drop_trailing_whitespace}
@@ -30,14 +31,16 @@ item_of (Err e) = Err (fault_of e)
 abbrev pub items_left : SpanIter → List (Result SpanView Fault)
 items_left i =
     if i.ended then []
-    else left_at (length i.rest.now == length i.text.now) (chars i.text.now) (drop_while is_whitespace (chars i.rest.now))
+    else left_at (length i.rest.now == length i.text.now) (chars i.text.now)
+    (drop_while is_whitespace (chars i.rest.now))
 
 -- The text that an iterator borrows.
 abbrev pub text_of : SpanIter → List ℕ
 text_of i = i.text.now
 
--- `next` returned the first of the remaining items and left the others, or returned `None` if none remained. The iterator still reads the
--- same text; the span lies in it, or the error points into it.
+-- `next` returned the first of the remaining items and left the others, or returned `None` if none
+-- remained. The iterator still reads the same text; the span lies in it, or the error points into
+-- it.
 abbrev pub GivesItem : SpanIter → Option (Result Span DurationError) → SpanIter → Type 0
 GivesItem old result new =
     YieldsFirstBy item_of items_left old result new

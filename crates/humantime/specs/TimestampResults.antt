@@ -10,7 +10,10 @@ use Rattle.humantime.specs.declared.date.print.Precision.TheVariants.{Seconds, M
 use Rattle.humantime.specs.Values.{nanos_per_second, seconds_per_day}
 use Rattle.humantime.specs.Timestamps.{date_time_of, fraction_part, weak_checks, strict_checks, first_failed, digit, Letter_T, Letter_Z, Fields, fields_text, fraction_nanos, seconds_of, IsWeakMoment, IsStrictMoment, MomentToPrint, year_10000, places_of, IsPrintable}
 
--- ==== The date `n` days after 1970-01-01, computed with years that begin on 1 March and are counted from 1600, so that a leap day is the last day of its year. The text that `Display` of both timestamps writes is defined with this date. The definition need not be trusted: a law states that this text is the printed one.
+-- ==== The date `n` days after 1970-01-01, computed with years that begin on 1 March and are
+-- counted from 1600, so that a leap day is the last day of its year. The text that `Display` of
+-- both timestamps writes is defined with this date. The definition need not be trusted: a law
+-- states that this text is the printed one.
 
 -- The number of days before year `n`.
 abbrev pub march_days : ℕ → ℕ
@@ -20,7 +23,8 @@ march_days n = n * 365 + n / 4 - n / 100 + n / 400
 abbrev pub march_months : ℕ → ℕ
 march_months k = (153 * k + 2) / 5
 
--- The year of the day `n` days after 1600-03-01. Four centuries have 146,097 days, and four years of a century have 1,461.
+-- The year of the day `n` days after 1600-03-01. Four centuries have 146,097 days, and four years
+-- of a century have 1,461.
 abbrev pub march_year : ℕ → ℕ
 march_year n =
     let century = (4 * n + 3) / 146_097 in
@@ -66,8 +70,8 @@ weak_answer bytes = moment_or_error (first_failed (weak_checks bytes)) (moment_a
 unfoldable pub strict_answer : List ℕ → Result ℤ TimestampError
 strict_answer bytes = moment_or_error (first_failed (strict_checks bytes)) (moment_at bytes)
 
--- The result of parsing in the weak form is `Ok(t)` if and only if the text represents `t` in that form, and `Err(e)` if and only if `e` is
--- the error of the first check that fails.
+-- The result of parsing in the weak form is `Ok(t)` if and only if the text represents `t` in that
+-- form, and `Err(e)` if and only if `e` is the error of the first check that fails.
 pub record IsWeakAnswer (bytes : List ℕ) (r : Result ℤ TimestampError) : Type 0 where
   pub value : (t : ℤ) → (r ≡ Ok t) ↔ IsWeakMoment bytes t
   pub error : (e : TimestampError) → (r ≡ Err e) ↔ (first_failed (weak_checks bytes) ≡ Some e)
@@ -88,14 +92,16 @@ places Nanos = 9
 
 -- The precision with `k` fraction digits.
 abbrev pub precision_of : ℕ → Precision
-precision_of k = if k == 0 then Seconds else (if k == 3 then Millis else (if k == 6 then Micros else Nanos))
+precision_of k =
+    if k == 0 then Seconds else (if k == 3 then Millis else (if k == 6 then Micros else Nanos))
 
 -- The last `k` decimal digits of a number.
 abbrev pub last_digits : ℕ → ℕ → List ℕ
 last_digits zero n = []
 last_digits (suc k) n = digit (n / 10 ^ k % 10) ∷ last_digits k n
 
--- The parts that are printed for a date, a time in seconds after midnight and its nanoseconds, with `k` fraction digits.
+-- The parts that are printed for a date, a time in seconds after midnight and its nanoseconds, with
+-- `k` fraction digits.
 abbrev pub printed_fields : Date → ℕ → ℕ → ℕ → Fields
 printed_fields date time nanos k = record {
   date = date;
@@ -126,9 +132,11 @@ printed_text x = moment_text x.moment x.places
 abbrev pub shortest_text : ℤ → Option (List ℕ)
 shortest_text t = moment_text t (places_of t)
 
--- The effect of `Display` of a timestamp. If it returns `Ok`, the moment is in 1970 to 9999, and its text has been written, whatever the
--- options of the formatter are. For a moment outside these years, it returns `fmt::Error` and leaves the formatter unchanged.
-pub record DisplaysMoment {W : Type 0} (gives : W → List ℕ → W → Type 0) (old : Formatter W) (result : Result (Unit {0}) Error) (moment : ℤ)
+-- The effect of `Display` of a timestamp. If it returns `Ok`, the moment is in 1970 to 9999, and
+-- its text has been written, whatever the options of the formatter are. For a moment outside these
+-- years, it returns `fmt::Error` and leaves the formatter unchanged.
+pub record DisplaysMoment {W : Type 0} (gives : W → List ℕ → W
+    → Type 0) (old : Formatter W) (result : Result (Unit {0}) Error) (moment : ℤ)
     (text : Option (List ℕ)) (new : Formatter W) : Type 0 where
   pub writes : DisplaysOnOk gives old result text new
   pub styled : DisplaysStyledOnOk gives old result text new

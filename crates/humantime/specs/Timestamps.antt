@@ -1,4 +1,5 @@
--- Timestamps: the parts of a text and the moment that it represents, the checks of the parsers, and the printed text of a moment.
+-- Timestamps: the parts of a text and the moment that it represents, the checks of the parsers, and
+-- the printed text of a moment.
 use Rattle.std.specs.Prelude.{ℕ, ◌+◌, ◌/◌, ◌%◌, List, [], ◌∷◌, ◌≡◌, ◌≢◌, ◌*◌, ◌≤◌, min, ◌++◌, take, codes, Option, Some, None, ℤ, pos, unwrap_or, IsTrue, ◌-◌, Bool, ◌&&◌, ◌||◌, ◌==◌, nat_le, nat_eq, if◌then◌else◌, length, drop, slice_index, slice_range, ◌^◌, option_map, ◌≤ℤ◌, ◌<ℤ◌, ◌-ℤ◌}
 use Rattle.std.specs.Str.{byte, all_ascii_digits}
 use Rattle.std.specs.Char.{is_ascii_digit}
@@ -11,7 +12,8 @@ use Rattle.humantime.specs.Values.{nanos_per_second, seconds_per_day, seconds_pe
 use Rattle.humantime.specs.declared.date.error.TimestampError.{TimestampError}
 use Rattle.humantime.specs.declared.date.error.TimestampError.TheVariants.{OutOfRange, InvalidDigit, InvalidFormat}
 
--- ==== The parts of a timestamp, the texts that represent them, and the moment that they denote. A text is its list of bytes.
+-- ==== The parts of a timestamp, the texts that represent them, and the moment that they denote. A
+-- text is its list of bytes.
 
 -- Returns the ASCII digit of a number below 10.
 abbrev pub digit : ℕ → ℕ
@@ -36,7 +38,8 @@ pub data Zone : Type 0 where
   Letter_Z : Zone
   ZeroOffset : Zone
 
--- The parts of a timestamp: the date, the separator, the time, the digits of the fraction of a second, if any, and the zone.
+-- The parts of a timestamp: the date, the separator, the time, the digits of the fraction of a
+-- second, if any, and the zone.
 pub record Fields : Type 0 where
   pub date : Date
   pub separator : Separator
@@ -66,7 +69,8 @@ zone_text ZeroOffset = codes "+00:00"
 abbrev pub date_time_text : Fields → List ℕ
 date_time_text f =
     four_digits f.date.year ++ codes "-" ++ two_digits f.date.month ++ codes "-" ++ two_digits f.date.day
-    ++ separator_byte f.separator ∷ two_digits f.hour ++ codes ":" ++ two_digits f.minute ++ codes ":" ++ two_digits f.second
+    ++ separator_byte f.separator ∷ two_digits f.hour ++ codes ":" ++ two_digits f.minute
+    ++ codes ":" ++ two_digits f.second
 
 -- Returns the text of all parts: the date and the time, followed by the fraction and the zone.
 abbrev pub fields_text : Fields → List ℕ
@@ -80,8 +84,8 @@ fraction_digits fraction = unwrap_or fraction []
 unfoldable pub fraction_nanos : List ℕ → ℕ
 fraction_nanos ds = decimal_value (take 9 (ds ++ codes "000000000"))
 
--- The text represents these parts in the weak form: the date exists; hour, minute and second are at most 23, 59 and 60; and the fraction,
--- if any, has only digits.
+-- The text represents these parts in the weak form: the date exists; hour, minute and second are at
+-- most 23, 59 and 60; and the fraction, if any, has only digits.
 pub record IsWeak (bytes : List ℕ) (f : Fields) : Type 0 where
   pub text : bytes ≡ fields_text f
   pub date : IsDate f.date
@@ -96,14 +100,16 @@ pub record IsStrict (bytes : List ℕ) (f : Fields) : Type 0 where
   pub separator : f.separator ≡ Letter_T
   pub zone : f.zone ≢ NoZone
 
--- Returns the number of seconds from 1970-01-01T00:00:00Z to a date and time. Second 60 counts as second 59.
+-- Returns the number of seconds from 1970-01-01T00:00:00Z to a date and time. Second 60 counts as
+-- second 59.
 abbrev pub seconds_of : Date → ℕ → ℕ → ℕ → ℕ
 seconds_of date hour minute second =
     day_of date * seconds_per_day + hour * seconds_per_hour + minute * seconds_per_minute + min second 59
 
 -- Returns the moment of the parts, in nanoseconds since 1970-01-01T00:00:00Z.
 abbrev pub moment_of : Fields → ℕ
-moment_of f = seconds_of f.date f.hour f.minute f.second * nanos_per_second + fraction_nanos (fraction_digits f.fraction)
+moment_of f = seconds_of f.date f.hour f.minute f.second * nanos_per_second
+    + fraction_nanos (fraction_digits f.fraction)
 
 -- The text represents the moment `t` in the weak form.
 abbrev pub IsWeakMoment : List ℕ → ℤ → Type 0
@@ -113,7 +119,8 @@ IsWeakMoment bytes t = (f : Fields) × IsWeak bytes f × (t ≡ pos (moment_of f
 abbrev pub IsStrictMoment : List ℕ → ℤ → Type 0
 IsStrictMoment bytes t = (f : Fields) × IsStrict bytes f × (t ≡ pos (moment_of f))
 
--- ==== The checks that the parsers make on the bytes of a timestamp, in order, each with its error; and the messages of the errors.
+-- ==== The checks that the parsers make on the bytes of a timestamp, in order, each with its error;
+-- and the messages of the errors.
 
 -- Tests whether the text ends in this zone.
 abbrev pub ends_in : Zone → List ℕ → Bool
@@ -125,7 +132,8 @@ ends_in_zone bytes = ends_in Letter_Z bytes || ends_in ZeroOffset bytes
 
 -- Returns the zone at the end of the text.
 unfoldable pub zone_of : List ℕ → Zone
-zone_of bytes = if ends_in Letter_Z bytes then Letter_Z else (if ends_in ZeroOffset bytes then ZeroOffset else NoZone)
+zone_of bytes = if ends_in Letter_Z bytes then Letter_Z
+    else (if ends_in ZeroOffset bytes then ZeroOffset else NoZone)
 
 -- Returns the bytes before the zone.
 abbrev pub before_zone : List ℕ → List ℕ
@@ -149,7 +157,8 @@ has_punctuation bytes =
 unfoldable pub has_two : List ℕ → ℕ → Bool
 has_two bytes k = is_ascii_digit (slice_index bytes k) && is_ascii_digit (slice_index bytes (k + 1))
 
--- Tests whether the other 14 of the first 19 bytes are digits.
+-- Tests whether the 14 of the first 19 bytes that `has_separator` and `has_punctuation` do not test
+-- are digits.
 unfoldable pub has_digits : List ℕ → Bool
 has_digits b = list_all (λ k. has_two b k) (0 ∷ 2 ∷ 5 ∷ 8 ∷ 11 ∷ 14 ∷ 17 ∷ [])
 
@@ -176,7 +185,8 @@ date_time_of b = record {
 -- Tests whether the date exists and hour, minute and second are at most 23, 59 and 60.
 unfoldable pub is_valid_date_time : DateAndTime → Bool
 is_valid_date_time x =
-    is_valid x.date.year x.date.month x.date.day && nat_le x.hour 23 && nat_le x.minute 59 && nat_le x.second 60
+    is_valid x.date.year x.date.month x.date.day && nat_le x.hour 23 && nat_le x.minute 59
+    && nat_le x.second 60
 
 -- Returns the bytes between the seconds and the zone.
 abbrev pub fraction_part : List ℕ → List ℕ
@@ -212,7 +222,8 @@ timestamp_message OutOfRange = codes "numeric component is out of range"
 timestamp_message InvalidDigit = codes "bad character where digit is expected"
 timestamp_message InvalidFormat = codes "timestamp format is invalid"
 
--- ==== The printed text of a moment, rounded down to a number of fraction digits. A text is its list of bytes.
+-- ==== The printed text of a moment, rounded down to a number of fraction digits. A text is its
+-- list of bytes.
 
 -- A moment to print, in nanoseconds, and the number of digits of its fraction, at most nine.
 pub record MomentToPrint : Type 0 where
@@ -228,8 +239,8 @@ places_of t = if nano_of t == 0 then 0 else 9
 abbrev pub cut : ℤ → ℕ → ℤ
 cut t k = t -ℤ int_rem_euclid t (pos (10 ^ (9 - k)))
 
--- The text represents the moment `t`, rounded down to `k` digits of a second, at most nine. It has a `T`, a `Z` and exactly `k` fraction
--- digits, and no point if `k` is 0. The second is never 60.
+-- The text represents the moment `t`, rounded down to `k` digits of a second, at most nine. It has
+-- a `T`, a `Z` and exactly `k` fraction digits, and no point if `k` is 0. The second is never 60.
 pub record IsPrinted (t : ℤ) (k : ℕ) (bytes : List ℕ) : Type 0 where
   pub few : k ≤ 9
   pub fields : Fields

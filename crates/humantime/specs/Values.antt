@@ -1,4 +1,5 @@
--- Amounts of time as numbers of nanoseconds, and moments as signed numbers of nanoseconds since 1970-01-01T00:00:00Z.
+-- Amounts of time as numbers of nanoseconds, and moments as signed numbers of nanoseconds since
+-- 1970-01-01T00:00:00Z.
 use Rattle.std.specs.Prelude.{ℕ, ◌^◌, ◌*◌, ℤ, pos, nat_abs, ◌+ℤ◌, ◌*ℤ◌}
 use Rattle.std.specs.Int.{int_div_euclid, int_rem_euclid}
 
@@ -42,7 +43,8 @@ seconds_per_year = 31_557_600
 abbrev pub duration_end : ℕ
 duration_end = 2 ^ 64 * nanos_per_second
 
--- Returns a moment in nanoseconds, given its seconds since 1970-01-01T00:00:00Z, which may be negative, and the nanoseconds after them.
+-- Returns a moment in nanoseconds, given its seconds since 1970-01-01T00:00:00Z, which may be
+-- negative, and the nanoseconds after them.
 abbrev pub moment : ℤ → ℕ → ℤ
 moment secs nanos = secs *ℤ pos nanos_per_second +ℤ pos nanos
 

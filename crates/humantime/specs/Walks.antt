@@ -1,5 +1,5 @@
--- Parsing from left to right: the reference that the contracts of private functions cite. Theorems in `proofs` relate it to the definitions
--- in `Durations` and `DurationErrors`.
+-- Parsing from left to right: the functions by which the results of the calls are defined. Theorems
+-- in `proofs` relate them to the definitions in `Durations` and `DurationErrors`.
 use Rattle.std.specs.Prelude.{ℕ, zero, suc, ◌+◌, Bool, true, not, ◌&&◌, ◌==◌, List, [], ◌∷◌, length, Option, Some, None, is_some, Result, Ok, Err, if◌then◌else◌, map, encode_utf8_all}
 use Rattle.humantime.specs.Characters.{begins, drop_while, decimal_value, is_whitespace, is_digit, is_letter, offset_of}
 use Rattle.humantime.specs.Durations.{Quantity, scale_of_word, SpelledSpan, quantity_nanos, additions_of, fits, is_some_and, has_room, too_long}
@@ -10,23 +10,29 @@ abbrev pub may_be_word : List ℕ → Bool
 may_be_word [] = true
 may_be_word (c ∷ cs) = is_letter c
 
--- Tests whether a point without digits follows the number at the start of `rest`, and then a letter or the end of the text.
+-- Tests whether a point without digits follows the number at the start of `rest`, and then a letter
+-- or the end of the text.
 abbrev pub has_bare_point : List ℕ → Bool
-has_bare_point rest = is_some_and (λ ds. length ds == 0) (fraction_of rest) && may_be_word (after_fraction rest)
+has_bare_point rest =
+    is_some_and (λ ds. length ds == 0) (fraction_of rest) && may_be_word (after_fraction rest)
 
--- Returns the error, if any, at the start of `rest`. These are tested in order: `rest` begins with a digit; the number or the fraction is
--- too long; a point has no digits; a character other than a digit or whitespace follows the word, which may be empty; it is not a unit.
+-- Returns the fault at the start of `rest`, if any: that of the first of these that holds. `rest`
+-- does not begin with a digit; its number or its fraction is too long; a point has no digits; a
+-- character other than a digit or whitespace follows the word, which may be empty; the word is not
+-- a unit.
 unfoldable pub fault_at : List ℕ → List ℕ → Option Fault
 fault_at text rest =
     if not (begins is_digit rest) then Some (NumberExpected (offset_of text rest))
     else if too_long (span_of rest) then Some NumberOverflow
     else if has_bare_point rest then Some (InvalidCharacter (offset_of text (after_number rest)))
-    else if not (may_follow_span (after_word rest)) then Some (InvalidCharacter (offset_of text (after_word rest)))
+    else if not (may_follow_span (after_word rest))
+    then Some (InvalidCharacter (offset_of text (after_word rest)))
     else if is_some (scale_of_word (word_of rest)) then None
     else Some (UnknownUnit (offset_of text (after_fraction rest)) (offset_of text (after_word rest))
     (encode_utf8_all (word_of rest)) (decimal_value (number_of rest)))
 
--- The rest of the text at the start of each span, and the rest after them, where an error stops them or the text ends.
+-- The rest of the text at the start of each span, and the rest after them, where an error stops
+-- them or the text ends.
 pub record Walk : Type 0 where
   pub starts : List (List ℕ)
   pub rest : List ℕ
@@ -35,7 +41,8 @@ pub record Walk : Type 0 where
 unfoldable pub walk : ℕ → List ℕ → List ℕ → Walk
 walk zero text rest = record { starts = []; rest = rest }
 walk (suc n) text rest = elim (fault_at text rest) [
-  | None ↦ let w = walk n text (drop_while is_whitespace (after_word rest)) in record { starts = rest ∷ w.starts; rest = w.rest }
+  | None ↦ let w = walk n text (drop_while is_whitespace (after_word rest)) in
+      record { starts = rest ∷ w.starts; rest = w.rest }
   | Some e ↦ record { starts = []; rest = rest }
 ]
 
@@ -47,14 +54,16 @@ walk_from text rest = walk (suc (length rest)) text rest
 abbrev pub walk_of : List ℕ → Walk
 walk_of text = walk_from text (drop_while is_whitespace text)
 
--- The error at the rest after the spans, if any. At the end of the text, it is an error if there is no span.
+-- The error at the rest after the spans, if any. At the end of the text, it is an error if there is
+-- no span.
 abbrev pub stop_at : Bool → List ℕ → List ℕ → Option Fault
 stop_at none text [] = if none then Some Empty else None
 stop_at none text (c ∷ cs) = fault_at text (c ∷ cs)
 
 -- The spans of a text, and the error that stops them, if any.
 unfoldable pub items : List ℕ → List SpelledSpan × Option Fault
-items text = let w = walk_of text in (map span_of w.starts, stop_at (length w.starts == 0) text w.rest)
+items text =
+    let w = walk_of text in (map span_of w.starts, stop_at (length w.starts == 0) text w.rest)
 
 -- Returns the sum of `t` and a quantity, or `None` on overflow.
 abbrev pub add : ℕ → Quantity → Option ℕ
@@ -69,8 +78,10 @@ add_all t (x ∷ xs) = elim (add t x) [ None ↦ None | Some u ↦ add_all u xs 
 unfoldable pub add_span : ℕ → SpelledSpan → Option ℕ
 add_span t s = if fits s then add_all t (additions_of s) else None
 
--- Returns the sum of `t` and the spans, or `NumberOverflow` if they break a limit, or otherwise the error that stops them, if any.
+-- Returns the sum of `t` and the spans, `NumberOverflow` at the first span that breaks a limit, or
+-- the error that stops them, if any.
 unfoldable pub sum_spans : ℕ → List (Result SpelledSpan Fault) → Result ℕ Fault
 sum_spans t [] = Ok t
 sum_spans t (Err e ∷ items) = Err e
-sum_spans t (Ok s ∷ items) = elim (add_span t s) [ None ↦ Err NumberOverflow | Some u ↦ sum_spans u items ]
+sum_spans t (Ok s ∷ items) =
+    elim (add_span t s) [ None ↦ Err NumberOverflow | Some u ↦ sum_spans u items ]

@@ -39,7 +39,7 @@ const DAYS_PER_4_YEARS: u32 = 1_461;
 const DAYS_PER_YEAR: u32 = 365;
 
 /// A count as a unary number: `Start` is 0, and `Next` adds 1. `Next` holds a snapshot of the
-/// previous count: of the field `chain` of [`Turns`], which is a snapshot itself. Snapshots take no
+/// previous count, which is the field `chain` of [`Turns`], itself a snapshot. Snapshots take no
 /// bytes.
 #[derive(Drop)]
 enum Chain {
@@ -221,8 +221,8 @@ pub fn day_number(date: Date, turns: &mut Turns) -> Option<u32>
 /// the zero-based index of the day in its year (below 366). Years begin on 1 March here, so that a
 /// leap day is the last day of its year. 1600-03-01 is 135,080 days before 1970-01-01.
 ///
-/// The last century of 400 years and the last of four years have an extra day, on which the
-/// quotient would be 4, so both are capped at 3.
+/// The last century of a cycle of 400 years, and the last year of a cycle of four, have an extra
+/// day. On it the quotient would be 4, so both quotients are capped at 3.
 #[inline(always)]
 fn march_year(day: u32) -> (u32, u32)
     requires { day ≤ 2_932_896 }

@@ -1,7 +1,7 @@
 //! Parses and prints durations such as `2h 37m`.
 //!
-//! The modules, each after those that it uses: `error`, `digits` (of numbers), `span`, `scan` (which reads one), `iter` (all spans), `parse`
-//! (a whole string) and `print`.
+//! The modules, each after those that it uses: `error`, `digits` (of numbers), `span`, `scan`
+//! (which reads one), `iter` (all spans), `parse` (a whole string) and `print`.
 
 mod digits;
 mod error;

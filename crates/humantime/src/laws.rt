@@ -1,7 +1,7 @@
 //! Laws: theorems about the definitions that contracts cite.
 //!
-//! Each function does nothing at run time; its contract states the law for all arguments. To use a law in the proof of a function,
-//! call the law there with the values that it is about.
+//! Each function does nothing at run time; its contract states the law for all arguments. To use a
+//! law in the proof of a function, call the law there with the values that it is about.
 
 ghost use Rattle.std.specs.Prelude.{◌≤◌, chars, ◌≡◌, ◌++◌, ◌↔◌, ◌<ℤ◌, ℕ, List, IsTrue};
 ghost use Rattle.humantime.specs.declared.calendar.Date.{Date};
@@ -15,7 +15,8 @@ ghost use Rattle.std.specs.Ordering.{is_lt, nat_cmp};
 use crate::date::Rfc3339Timestamp;
 use crate::value::{StdDuration, SystemTime};
 
-/// States that each day number from 0 to 2932896 has exactly one date, from 1970-01-01 to 9999-12-31, and that no other number has one.
+/// States that each day number from 0 to 2932896 has exactly one date, from 1970-01-01 to
+/// 9999-12-31, and that no other number has one.
 ///
 /// # Examples
 ///
@@ -34,10 +35,11 @@ pub fn one_date(day: u32)
     ensures within { (d : Date) → IsDateOfDay day d → day ≤ 2_932_896 }
 {}
 
-/// States that a string has exactly one value or exactly one first error, and at most one list of spans.
+/// States that a string has exactly one value or exactly one first error, and at most one list of
+/// spans.
 ///
-/// It also has exactly one list of items: its spans, and the error at which they end, if any. The result of parsing, as a function
-/// of the string, is that value or that error.
+/// It also has exactly one list of items: its spans, and the error at which they end, if any. The
+/// result of parsing, as a function of the string, is that value or that error.
 ///
 /// # Examples
 ///
@@ -53,12 +55,13 @@ pub fn one_outcome(s: &str)
     ensures { HasOneOutcome (chars s.now) }
 {}
 
-/// States that the items that [`spans`](crate::spans) yields determine the value or the error of a string, unless the string is exactly
-/// `0`.
+/// States that the items that [`spans`](crate::spans) yields determine the value or the error of a
+/// string, unless the string is exactly `0`.
 ///
-/// If the spans are within the limits, the string denotes their sum, or has the error at which they end, if any. If they break a limit,
-/// the error is [`NumberOverflow`](crate::DurationError::NumberOverflow), whatever follows them. So if the first item is an error, it is
-/// the string's first error.
+/// If the spans are within the limits, the string denotes their sum, or has the error at which they
+/// end, if any. If they break a limit, the error is
+/// [`NumberOverflow`](crate::DurationError::NumberOverflow), whatever follows them. So if the first
+/// item is an error, it is the string's first error.
 ///
 /// # Examples
 ///
@@ -76,12 +79,13 @@ pub fn spans_decide(s: &str)
     ensures { ItemsDecide (chars s.now) }
 {}
 
-/// States that [`spans`](crate::spans) yields exactly one list of items for a string, and that their slices follow each other in the
-/// string.
+/// States that [`spans`](crate::spans) yields exactly one list of items for a string, and that
+/// their slices follow each other in the string.
 ///
-/// Up to the end of the last span and of the whitespace after it, each character lies in exactly one slice (a number, a fraction or a
-/// unit), or in none and is whitespace or a point. If no item is an error, that is the whole string. Two iterations over a string return
-/// the same slices.
+/// Up to the end of the last span and of the whitespace after it, each character lies in exactly
+/// one slice (a number, a fraction or a unit), or in none and is whitespace or a decimal point. If
+/// no item is an error, that is the whole string. Two iterations over a string return the same
+/// slices.
 ///
 /// # Examples
 ///
@@ -115,12 +119,13 @@ pub fn without_ws(s: &str)
     ensures { KeepsValueWithoutWhitespace (chars s.now) }
 {}
 
-/// States that the concatenation of two accepted strings, neither of them `0`, is accepted with the sum of their values, unless an
-/// addition overflows.
+/// States that the concatenation of two accepted strings, neither of them `0`, is accepted with the
+/// sum of their values, unless an addition overflows.
 ///
-/// The additions of the second string's spans follow those of the first's. The sum overflows if and only if one of these additions does;
-/// the error is then [`NumberOverflow`](crate::DurationError::NumberOverflow). An accepted string other than `0` consists of spans, so the
-/// statements about spans apply to it.
+/// The additions of the second string's spans follow those of the first's. The sum overflows if and
+/// only if one of these additions does; the error is then
+/// [`NumberOverflow`](crate::DurationError::NumberOverflow). An accepted string other than `0`
+/// consists of spans, so the statements about spans apply to it.
 ///
 /// # Examples
 ///
@@ -139,7 +144,8 @@ pub fn joined(a: &str, b: &str)
 
 /// States that two accepted strings whose spans are reorderings of each other have equal values.
 ///
-/// A reordering of an accepted string may overflow. The string `0` has no spans, so the law does not apply to it.
+/// A reordering of an accepted string may overflow. The string `0` has no spans, so the law does
+/// not apply to it.
 ///
 /// # Examples
 ///
@@ -160,10 +166,12 @@ pub fn reordered(a: &str, b: &str)
     ensures { KeepValueReordered (chars a.now) (chars b.now) }
 {}
 
-/// States that a string accepted by the rule that trailing zeros count, as in the Rust crate, is accepted with the same value.
+/// States that a string accepted by the rule that trailing zeros count, as in the Rust crate, is
+/// accepted with the same value.
 ///
-/// By that rule, trailing zeros count towards the 19 digits that a fraction may have and towards its precision, and nanoseconds have no
-/// fraction at all. What a span adds is the same by both rules.
+/// By that rule, trailing zeros count towards the 19 digits that a fraction may have and towards
+/// its precision, and nanoseconds have no fraction at all. What a span adds is the same by both
+/// rules.
 ///
 /// # Examples
 ///
@@ -180,7 +188,8 @@ pub fn still_accepted(s: &str)
     ensures { KeepsValueWithZeros (chars s.now) }
 {}
 
-/// States that a duration has exactly one canonical string, which is the printed string and parses to the duration.
+/// States that a duration has exactly one canonical string, which is the printed string and parses
+/// to the duration.
 ///
 /// # Examples
 ///
@@ -234,10 +243,11 @@ pub fn printed_bounds(d: StdDuration)
     ensures { IsBounded d }
 {}
 
-/// States that an accepted string has a canonical string, which parses to the same duration and is its own canonical string.
+/// States that an accepted string has a canonical string, which parses to the same duration and is
+/// its own canonical string.
 ///
-/// It also states that the result of [`canonical`](crate::canonical), as a function of the string, is this canonical string or the first
-/// error.
+/// It also states that the result of [`canonical`](crate::canonical), as a function of the string,
+/// is this canonical string or the first error.
 ///
 /// # Examples
 ///
@@ -254,9 +264,11 @@ pub fn canonical_again(s: &str)
     ensures { IsCanonicalAgain s.now }
 {}
 
-/// States that the strict format is the weak one with a `T` between the date and the time, and a zone at the end.
+/// States that the strict format is the weak one with a `T` between the date and the time, and `Z`
+/// or `+00:00` at the end.
 ///
-/// So the strict parser returns a time if and only if the weak parser returns it and the string has both.
+/// So the strict parser returns a time if and only if the weak parser returns it and the string has
+/// both.
 ///
 /// # Examples
 ///
@@ -276,7 +288,8 @@ pub fn strict_is_weak(s: &str)
     ensures { IsWeakAndMarked s.now }
 {}
 
-/// States that each string has exactly one outcome for each parser, a time or an error, which is what the parser returns.
+/// States that each string has exactly one outcome for each parser, a time or an error, which is
+/// what the parser returns.
 ///
 /// A string represents a date and a time if and only if no check fails, and then only one of each.
 ///
@@ -294,10 +307,12 @@ pub fn one_stamp_outcome(s: &str)
     ensures strict { HasOneTimestamp (strict_checks s.now) (IsStrict s.now) (strict_answer s.now) }
 {}
 
-/// States that a time from 1970 to 9999 has exactly one printed string with a given number of digits, which both parsers parse.
+/// States that a time from 1970 to 9999 has exactly one printed string with a given number of
+/// digits, which both parsers parse.
 ///
-/// The digits, none to nine, are those of a fraction of a second. The parsers return the time truncated to them: to whole seconds for none,
-/// and unchanged for nine. `Display` writes this string.
+/// The digits, none to nine, are those of a fraction of a second. The parsers return the time
+/// truncated to them: to whole seconds for none, and unchanged for nine. `Display` writes this
+/// string.
 ///
 /// # Examples
 ///
@@ -318,7 +333,8 @@ pub fn printed_moment_reads(x: &Rfc3339Timestamp)
     ensures { MomentPrintsAndReads x.now.moment x.now.places }
 {}
 
-/// States that printed strings with the same number of digits are ordered, as bytes, like their times truncated to these digits.
+/// States that printed strings with the same number of digits are ordered, as bytes, like their
+/// times truncated to these digits.
 ///
 /// # Examples
 ///
@@ -335,5 +351,6 @@ pub fn printed_moment_reads(x: &Rfc3339Timestamp)
 #[tactic(auto, using(crate::proofs::Theorems::moments_in_order))]
 pub fn stamps_in_order(a: SystemTime, b: SystemTime)
     ensures order { PrintInOrder a b }
-    ensures nanos { (x : List ℕ) (y : List ℕ) → IsPrinted a 9 x → IsPrinted b 9 y → (a <ℤ b) ↔ IsTrue (is_lt (slice_cmp nat_cmp x y)) }
+    ensures nanos { (x : List ℕ) (y : List ℕ) → IsPrinted a 9 x → IsPrinted b 9 y → (a <ℤ b)
+        ↔ IsTrue (is_lt (slice_cmp nat_cmp x y)) }
 {}

@@ -1,10 +1,12 @@
 //! Parses and prints durations such as `2h 37m` and UTC timestamps such as `2018-02-14T00:28:07Z`.
 //!
-//! The contracts cite the definitions in `specs/`, of which most that callers need are in `specs/Prelude.antt`.
+//! Contracts cite the definitions in `specs/`. Those that most callers need are in
+//! `specs/Prelude.antt`.
 //!
 //! # Examples
 //!
-//! Each example in this crate is the body of a test: `rt` is the test's `HostRuntime`, and `?` ends the test with the error.
+//! Each example in this crate is the body of a test: `rt` is the test's `HostRuntime`, and `?` ends
+//! the test with the error.
 //!
 //! ```
 //! use humantime::{StdDuration, format_rfc3339, parse_duration, parse_rfc3339};

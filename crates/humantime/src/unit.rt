@@ -1,7 +1,8 @@
 //! The units of time: their sizes, their words, and what one of each adds to a duration.
 //!
-//! A `match` on byte strings compiles to one decision tree, and one on `str` to a comparison with each word in turn. It is split in three,
-//! by the sizes of the units, because a single one has too many branches for the prover.
+//! A `match` on byte strings compiles to one decision tree, and one on `str` to a comparison with
+//! each word in turn. It is split in three, by the sizes of the units, because a single one has too
+//! many branches for the prover.
 
 ghost use Rattle.std.specs.Prelude.{◌≡◌, chars, option_map};
 ghost use Rattle.humantime.specs.Values.{seconds_per_day};
@@ -40,17 +41,18 @@ pub(crate) enum Quantity {
 pub(crate) struct Scale {
     /// The size of one unit.
     pub whole: Quantity,
-    /// The same size as a factor for fractions: a fraction times this must be a whole number of nanoseconds or of seconds. `None` if a
-    /// fraction must be zero.
+    /// The same size as a factor for fractions: a fraction times this must be a whole number of
+    /// nanoseconds or of seconds. `None` if a fraction must be zero.
     pub part: Option<Quantity>,
 }
 
-/// The scale of a unit of this size. It is a macro, because a reference to a constant expression is `'static`, and a reference to the result
-/// of a function is not.
+/// The scale of a unit of this size. It is a macro, because a reference to a constant expression is
+/// `'static`, and a reference to the result of a function is not.
 macro_rules! unit {
     // One nanosecond, which has no fractions.
     (nanosecond) => { Some(&Scale { whole: Quantity::Nanos(1), part: None }) };
-    // A size in nanoseconds or in seconds. A fraction of either must be a whole number of nanoseconds.
+    // A size in nanoseconds or in seconds. A fraction of either must be a whole number of
+    // nanoseconds.
     (nanos $size:expr) => { Some(&Scale { whole: Quantity::Nanos($size), part: Some(Quantity::Nanos($size)) }) };
     (seconds nanos $size:expr) => { Some(&Scale { whole: Quantity::Seconds($size), part: Some(Quantity::Nanos($size * NANOS_PER_SECOND as u64)) }) };
     // A size in seconds. A fraction must be a whole number of seconds.

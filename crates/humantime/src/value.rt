@@ -1,4 +1,5 @@
-//! [`StdDuration`] and [`SystemTime`], the counterparts of `Duration` and `SystemTime` in `std::time`.
+//! [`StdDuration`] and [`SystemTime`], the counterparts of `Duration` and `SystemTime` in
+//! `std::time`.
 
 mod std_duration;
 mod system_time;

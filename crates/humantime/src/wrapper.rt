@@ -1,4 +1,5 @@
-//! [`Duration`] and [`Timestamp`], which wrap [`StdDuration`] and [`SystemTime`] to parse and print them.
+//! [`Duration`] and [`Timestamp`], which wrap [`StdDuration`] and [`SystemTime`] to parse and print
+//! them.
 
 ghost use Rattle.std.specs.Prelude.{◌≡◌, Some};
 ghost use Rattle.humantime.specs.Prelude.{IsDurationAnswer};
@@ -10,8 +11,8 @@ use std::fmt;
 use std::marker::Model;
 use std::str::FromStr;
 
-/// A wrapper of [`StdDuration`] that [`from_str`](Self::from_str) parses and `Display` prints, for a settings field or a command-line
-/// option.
+/// A wrapper of [`StdDuration`] that [`from_str`](Self::from_str) parses and `Display` prints, for
+/// a settings field or a command-line option.
 ///
 /// Order, equality and hashing are those of the wrapped `StdDuration`; the default is zero.
 ///
@@ -124,7 +125,8 @@ impl fmt::Display for Duration {
     }
 }
 
-/// A wrapper of [`SystemTime`] that implements `FromStr` and `Display`, for a settings field or a command-line option.
+/// A wrapper of [`SystemTime`] that implements `FromStr` and `Display`, for a settings field or a
+/// command-line option.
 ///
 /// Order, equality and hashing are those of the wrapped `SystemTime`.
 ///
@@ -217,7 +219,8 @@ impl fmt::Display for Timestamp {
     ghost styled_output = { λ t _. shortest_text t };
 
     fn fmt<W: fmt::Write>(&self, f: &mut fmt::Formatter<W>) -> fmt::Result
-        ensures { DisplaysMoment W.write_str_gives f.old result self.now (shortest_text self.now) f.new }
+        ensures { DisplaysMoment W.write_str_gives f.old result self.now
+            (shortest_text self.now) f.new }
     {
         format_rfc3339(self.0).fmt(f)
     }

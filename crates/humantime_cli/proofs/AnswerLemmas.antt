@@ -1,4 +1,5 @@
--- Lemmas about the output for the results of the library, the uniqueness of the answer, and the end of the program.
+-- Lemmas about the output for the results of the library, the uniqueness of the answer, and the end
+-- of the program.
 use Rattle.humantime.specs.DurationErrors.{fault_of, fault_message}
 use Rattle.humantime.specs.DurationResults.{IsDurationAnswer, duration_text, canonical_answer}
 use Rattle.humantime.specs.TimestampResults.{strict_answer, weak_answer, shortest_text}
@@ -18,17 +19,22 @@ abbrev pub moment_written : Result ℤ TimestampError → Result (List ℕ) (Lis
 moment_written read = result_map_both (λ t. unwrap_or (shortest_text t) []) timestamp_message read
 
 -- A moment that was parsed has a text.
-pub has_text : {P : ℤ → Type 0} (read : Result ℤ TimestampError) → ((t : ℤ) → (read ≡ Ok t) ↔ P t) → ((t : ℤ) → P t → IsPrintable t) → IfOk read (λ t. IsSome (shortest_text t))
-has_text (Ok t) value printable = rw (printed_some t (places_of t) (places_of_bound t) (printable t ((value t).0 refl))).1 refl
+pub has_text : {P : ℤ → Type 0} (read : Result ℤ TimestampError) → ((t : ℤ) → (read ≡ Ok t) ↔ P t)
+    → ((t : ℤ) → P t → IsPrintable t) → IfOk read (λ t. IsSome (shortest_text t))
+has_text (Ok t) value printable =
+    rw (printed_some t (places_of t) (places_of_bound t) (printable t ((value t).0 refl))).1 refl
 has_text (Err e) value printable = tt
 
 pub tells_duration : {text : List ℕ} (read : Result ℕ DurationError) → IsDurationAnswer text read
     → IsOutputOf Duration text (result_map_both duration_text (λ e. fault_message (fault_of e)) read)
-tells_duration (Ok d) is = record { duration = d; accepted = (is.value d).0 refl; canon = printed_is_canon d }
+tells_duration (Ok d) is =
+    record { duration = d; accepted = (is.value d).0 refl; canon = printed_is_canon d }
 tells_duration (Err e) is = (fault_of e, (is.fault (fault_of e)).0 refl, refl)
 
-pub tells_moment : {Denotes : ℤ → Type 0} {Has : TimestampError → Type 0} (read : Result ℤ TimestampError) → ((t : ℤ) → (read ≡ Ok t) ↔ Denotes t)
-    → ((e : TimestampError) → (read ≡ Err e) ↔ Has e) → ((t : ℤ) → Denotes t → IsPrintable t) → IsMomentOutput Denotes Has (moment_written read)
+pub tells_moment : {Denotes : ℤ → Type 0} {Has : TimestampError
+    → Type 0} (read : Result ℤ TimestampError) → ((t : ℤ) → (read ≡ Ok t) ↔ Denotes t)
+    → ((e : TimestampError) → (read ≡ Err e) ↔ Has e) → ((t : ℤ) → Denotes t → IsPrintable t)
+    → IsMomentOutput Denotes Has (moment_written read)
 tells_moment (Ok t) value error printable =
     let denoted = (value t).0 refl in
     (t, denoted, grind (arith, (printed_some t (places_of t) (places_of_bound t) (printable t denoted))))
@@ -39,12 +45,15 @@ pub not_two : (words : List (List ℕ)) → length words ≢ 2 → Answers words
 not_two words other name command text same = other (ap length same)
 
 -- Neither are two arguments whose first is not the name of a command.
-pub unnamed : (name : List ℕ) {text : List ℕ} → name ≢ codes "duration" → name ≢ codes "strict" → name ≢ codes "weak" → Answers (name ∷ text ∷ []) None
+pub unnamed : (name : List ℕ) {text : List ℕ} → name ≢ codes "duration" → name ≢ codes "strict"
+    → name ≢ codes "weak" → Answers (name ∷ text ∷ []) None
 unnamed name duration strict weak other command text same = grind (arith, command)
 
 -- The output for a moment or an error that these results imply.
-one_moment : {P : ℤ → Type 0} {F : TimestampError → Type 0} (read : Result ℤ TimestampError) (told : Result (List ℕ) (List ℕ))
-    → ((t : ℤ) → P t → (read ≡ Ok t) × IsPrintable t) → ((e : TimestampError) → F e → read ≡ Err e) → IsMomentOutput P F told → told ≡ moment_written read
+one_moment : {P : ℤ → Type 0} {F : TimestampError
+    → Type 0} (read : Result ℤ TimestampError) (told : Result (List ℕ) (List ℕ))
+    → ((t : ℤ) → P t → (read ≡ Ok t) × IsPrintable t) → ((e : TimestampError) → F e → read ≡ Err e)
+    → IsMomentOutput P F told → told ≡ moment_written read
 one_moment read (Ok printed) value error (t, is, whole) =
     grind (arith, (value t is), (((printed_moment_reads t (places_of t) (places_of_bound t)).displayed printed).1 ((value t is).1, whole)))
 one_moment read (Err message) value error (e, is, same) = grind (arith, (error e is))
@@ -56,43 +65,62 @@ words_answer ((b ∷ name) ∷ text ∷ words) =
     else (if b == 115 then moment_written (strict_answer text) else moment_written (weak_answer text))
 words_answer words = Err []
 
-one_command_answer : {name : List ℕ} (command : Command name) (text : List ℕ) (told : Result (List ℕ) (List ℕ)) → IsOutputOf command text told → told ≡ words_answer (name ∷ text ∷ [])
-one_command_answer Duration text (Ok printed) is = grind (arith, (((canonical_again text).text printed).1 is))
-one_command_answer Duration text (Err message) (fault, has, same) = grind (arith, (((canonical_again text).fault fault).1 has))
+one_command_answer : {name : List ℕ} (command : Command name) (text : List ℕ) (told : Result
+    (List ℕ) (List ℕ)) → IsOutputOf command text told → told ≡ words_answer (name ∷ text ∷ [])
+one_command_answer Duration text (Ok printed) is =
+    grind (arith, (((canonical_again text).text printed).1 is))
+one_command_answer Duration text (Err message) (fault, has, same) =
+    grind (arith, (((canonical_again text).fault fault).1 has))
 one_command_answer Strict text told tells =
     let one = (one_stamp_outcome text).1 in
-    one_moment (strict_answer text) told (λ t is. ((one.value t).1 is, strict_printable text t is)) (λ e. (one.error e).1) tells
+    one_moment (strict_answer text) told (λ t is. ((one.value t).1 is, strict_printable text t is))
+    (λ e. (one.error e).1) tells
 one_command_answer Weak text told tells =
     let one = (one_stamp_outcome text).0 in
-    one_moment (weak_answer text) told (λ t is. ((one.value t).1 is, weak_printable text t is)) (λ e. (one.error e).1) tells
+    one_moment (weak_answer text) told (λ t is. ((one.value t).1 is, weak_printable text t is))
+    (λ e. (one.error e).1) tells
 
-answer_of_words : (words : List (List ℕ)) (told : Result (List ℕ) (List ℕ)) → Answers words (Some told) → told ≡ words_answer words
-answer_of_words words told (name, command, text, same, tells) = one_command_answer command text told tells ∙ ap words_answer (sym same)
+answer_of_words : (words : List (List ℕ)) (told : Result (List ℕ) (List ℕ))
+    → Answers words (Some told) → told ≡ words_answer words
+answer_of_words words told (name, command, text, same, tells) =
+    one_command_answer command text told tells ∙ ap words_answer (sym same)
 
 pub one_answer : (words : List (List ℕ)) → OneAnswer words
-one_answer words (Some told) (Some other) answers also = ap Some (answer_of_words words other also ∙ sym (answer_of_words words told answers))
-one_answer words (Some told) None (name, command, text, same, tells) none = absurd (none name command text same)
-one_answer words None (Some told) none (name, command, text, same, tells) = absurd (none name command text same)
+one_answer words (Some told) (Some other) answers also =
+    ap Some (answer_of_words words other also ∙ sym (answer_of_words words told answers))
+one_answer words (Some told) None (name, command, text, same, tells) none =
+    absurd (none name command text same)
+one_answer words None (Some told) none (name, command, text, same, tells) =
+    absurd (none name command text same)
 one_answer words None None none also = refl
 
 -- ==== The end of the program, by what one write accepted.
 
 -- The line was written to standard output.
-pub to_out : {T E : Type 0} (written : Result T E) {ended : Result ℕ E} {text : List ℕ} {old new : Option (List ℕ)} (err : Option (List ℕ)) → Writes written old new (line text)
-    → ended ≡ result_and written (Ok 0) → EndsWith (Some (Ok text)) (result_unwrap_or ended 3) (streams old err) (streams new err)
+pub to_out : {T E : Type 0} (written : Result T E) {ended : Result ℕ E} {text : List ℕ}
+    {old new : Option (List ℕ)} (err : Option (List ℕ))
+    → Writes written old new (line text)
+    → ended ≡ result_and written (Ok 0)
+    → EndsWith (Some (Ok text)) (result_unwrap_or ended 3) (streams old err) (streams new err)
 unfolding Writes
 to_out (Ok _) err wrote and = rw and (Whole refl wrote (Appends-nil err))
 to_out (Err e) err wrote and = rw and (Cut refl (inl (wrote, Keeps-refl err)))
 
 -- The line was written to standard error.
-pub to_err : {T E : Type 0} (written : Result T E) (answer : Answer) {ended : Result ℕ E} (out : Option (List ℕ)) {old new : Option (List ℕ)} → (outcome answer).1 ≡ []
-    → Writes written old new (outcome answer).2 → ended ≡ result_and written (Ok (outcome answer).0) → EndsWith answer (result_unwrap_or ended 3) (streams out old) (streams out new)
+pub to_err : {T E : Type 0} (written : Result T E) (answer : Answer) {ended : Result ℕ E}
+    (out : Option (List ℕ)) {old new : Option (List ℕ)}
+    → (outcome answer).1 ≡ []
+    → Writes written old new (outcome answer).2 → ended ≡ result_and written (Ok (outcome answer).0)
+    → EndsWith answer (result_unwrap_or ended 3) (streams out old) (streams out new)
 unfolding Writes
 to_err (Ok _) answer out none wrote and = rw and (Whole refl (rw none (Appends-nil out)) wrote)
 to_err (Err e) answer out none wrote and = rw and (Cut refl (inr (Keeps-refl out, wrote)))
 
 -- Flushing standard output keeps what was written.
-pub flushed : {answer : Answer} {status : ℕ} {old mid : Streams} {new : Option (List ℕ)} → EndsWith answer status old mid → Keeps mid.out new → EndsWith answer status old (streams new mid.err)
+pub flushed : {answer : Answer} {status : ℕ} {old mid : Streams} {new : Option (List ℕ)}
+    → EndsWith answer status old mid → Keeps mid.out new
+    → EndsWith answer status old (streams new mid.err)
 flushed (Whole same taken told) kept = Whole same (Appends-kept _ _ _ _ taken kept) told
-flushed (Cut three (inl ((n, before, taken), same))) kept = Cut three (inl ((n, before, Appends-kept _ _ _ _ taken kept), same))
+flushed (Cut three (inl ((n, before, taken), same))) kept =
+    Cut three (inl ((n, before, Appends-kept _ _ _ _ taken kept), same))
 flushed (Cut three (inr (same, front))) kept = Cut three (inr (Keeps-trans _ _ _ same kept, front))

@@ -1,4 +1,5 @@
--- The output of the program for its arguments, and the bytes that it writes to standard output and standard error.
+-- The output of the program for its arguments, and the bytes that it writes to standard output and
+-- standard error.
 use Rattle.std.specs.Prelude.{◌≡◌, ◌≢◌, ◌⊎◌, ℕ, List, [], ◌∷◌, ℤ, Option, Some, None, Result, Ok, Err, codes, chars, map}
 use Rattle.std.specs.Borrow.{Bor}
 use Rattle.std.specs.Io.KnownBytes.{Appends, Keeps}
@@ -16,27 +17,35 @@ pub data Command : List ℕ → Type 0 where
   Strict : Command (codes "strict")
   Weak : Command (codes "weak")
 
--- The output for a text: the printed text of a moment that the text denotes, with the default number of digits, or the message of an error
--- of the text.
-abbrev pub IsMomentOutput : (ℤ → Type 0) → (TimestampError → Type 0) → Result (List ℕ) (List ℕ) → Type 0
-IsMomentOutput Denotes Has (Ok printed) = (moment : ℤ) × Denotes moment × IsPrinted moment (places_of moment) printed
-IsMomentOutput Denotes Has (Err message) = (error : TimestampError) × Has error × (message ≡ timestamp_message error)
+-- The output for a text: the printed text of a moment that the text denotes, with the default
+-- number of digits, or the message of an error of the text.
+abbrev pub IsMomentOutput : (ℤ → Type 0) → (TimestampError → Type 0) → Result (List ℕ) (List ℕ)
+    → Type 0
+IsMomentOutput Denotes Has (Ok printed) =
+    (moment : ℤ) × Denotes moment × IsPrinted moment (places_of moment) printed
+IsMomentOutput Denotes Has (Err message) =
+    (error : TimestampError) × Has error × (message ≡ timestamp_message error)
 
 -- The output of a command for a text: the printed result, or the message of the error.
 abbrev pub IsOutputOf : {name : List ℕ} → Command name → List ℕ → Result (List ℕ) (List ℕ) → Type 0
 IsOutputOf Duration text (Ok printed) = IsCanonicalOf text printed
-IsOutputOf Duration text (Err message) = (fault : Fault) × HasFault (chars text) fault × (message ≡ fault_message fault)
-IsOutputOf Strict text output = IsMomentOutput (IsStrictMoment text) (λ error. first_failed (strict_checks text) ≡ Some error) output
-IsOutputOf Weak text output = IsMomentOutput (IsWeakMoment text) (λ error. first_failed (weak_checks text) ≡ Some error) output
+IsOutputOf Duration text (Err message) =
+    (fault : Fault) × HasFault (chars text) fault × (message ≡ fault_message fault)
+IsOutputOf Strict text output = IsMomentOutput (IsStrictMoment text)
+    (λ error. first_failed (strict_checks text) ≡ Some error) output
+IsOutputOf Weak text output = IsMomentOutput (IsWeakMoment text)
+    (λ error. first_failed (weak_checks text) ≡ Some error) output
 
 -- An answer is the output of a command, or `None` for the usage line.
 abbrev pub Answer : Type 0
 Answer = Option (Result (List ℕ) (List ℕ))
 
--- The arguments have this answer: the output of a command for its text, or the usage line if they are not a command and a text.
+-- The arguments have this answer: the output of a command for its text, or the usage line if they
+-- are not a command and a text.
 abbrev pub Answers : List (List ℕ) → Answer → Type 0
 Answers words (Some output) =
-    (name : List ℕ) × (command : Command name) × (text : List ℕ) × (words ≡ name ∷ text ∷ []) × IsOutputOf command text output
+    (name : List ℕ) × (command : Command name) × (text : List ℕ) × (words ≡ name ∷ text ∷ [])
+    × IsOutputOf command text output
 Answers words None = (name : List ℕ) → Command name → (text : List ℕ) → words ≢ name ∷ text ∷ []
 
 -- The bytes written to standard output and standard error so far, where they are known.
@@ -56,15 +65,18 @@ outcome None = (2, [], line (codes "usage: humantime duration|strict|weak TEXT")
 
 -- The arguments have at most one answer.
 abbrev pub OneAnswer : List (List ℕ) → Type 0
-OneAnswer words = (answer other : Answer) → Answers words answer → Answers words other → other ≡ answer
+OneAnswer words =
+    (answer other : Answer) → Answers words answer → Answers words other → other ≡ answer
 
--- The streams received exactly the answer, and the status is that of the answer; or the status is 3, one stream received a prefix of its
--- bytes, not all of them, and the other received nothing.
+-- The streams received exactly the answer, and the status is that of the answer; or the status is
+-- 3, one stream received a prefix of its bytes, not all of them, and the other received nothing.
 pub data EndsWith (answer : Answer) (status : ℕ) (old new : Streams) : Type 0 where
   -- The streams received exactly the answer.
-  Whole : status ≡ (outcome answer).0 → Appends old.out new.out (outcome answer).1 → Appends old.err new.err (outcome answer).2
+  Whole : status ≡ (outcome answer).0 → Appends old.out new.out (outcome answer).1
+      → Appends old.err new.err (outcome answer).2
       → EndsWith answer status old new
-  -- A write failed: one stream received a prefix of its bytes, not all of them, and the other received nothing.
+  -- A write failed: one stream received a prefix of its bytes, not all of them, and the other
+  -- received nothing.
   Cut : status ≡ 3
       → (AppendsFront old.out new.out (outcome answer).1 × Keeps old.err new.err)
       ⊎ (Keeps old.out new.out × AppendsFront old.err new.err (outcome answer).2)
@@ -72,8 +84,11 @@ pub data EndsWith (answer : Answer) (status : ℕ) (old new : Streams) : Type 0 
 
 -- The arguments have an answer, and the program ends with it.
 abbrev pub Ends : List (List ℕ) → ℕ → Streams → Streams → Type 0
-Ends words status old new = (answer : Answer) × Answers words answer × EndsWith answer status old new
+Ends words status old new =
+    (answer : Answer) × Answers words answer × EndsWith answer status old new
 
--- The program returned an error: either nothing was written, or it ended as `Ends` says and standard output could not be flushed.
+-- The program returned an error: either nothing was written, or it ended as `Ends` says and
+-- standard output could not be flushed.
 abbrev pub Fails : List (List ℕ) → Streams → Streams → Type 0
-Fails words old new = (Keeps old.out new.out × Keeps old.err new.err) ⊎ ((status : ℕ) × Ends words status old new)
+Fails words old new =
+    (Keeps old.out new.out × Keeps old.err new.err) ⊎ ((status : ℕ) × Ends words status old new)

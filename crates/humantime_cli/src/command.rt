@@ -21,20 +21,23 @@ const REJECTED: u8 = 1;
 /// The exit status if the arguments are not a command and its string.
 const MISUSED: u8 = 2;
 
-/// The exit status if a write failed or, in `main`, the arguments cannot be collected or standard output cannot be flushed.
+/// The exit status if a write failed or, in `main`, the arguments cannot be collected or standard
+/// output cannot be flushed.
 pub(crate) const FAILED: u8 = 3;
 
 const USAGE: &str = "usage: humantime duration|strict|weak TEXT";
 
-/// Runs the command given by `words`, the arguments after the program's name, and returns the exit status.
+/// Runs the command given by `words`, the arguments after the program's name, and returns the exit
+/// status.
 ///
 /// - `duration TEXT` writes the canonical string of the duration to `out` and returns 0.
-/// - `strict TEXT` and `weak TEXT` write the time, as `format_rfc3339` prints it, to `out` and return 0.
+/// - `strict TEXT` and `weak TEXT` write the time, as `format_rfc3339` prints it, to `out` and
+///   return 0.
 /// - If one of these cannot parse `TEXT`, it writes the error message to `err` and returns 1.
 /// - For any other arguments, it writes the usage line to `err` and returns 2.
 ///
-/// Each output ends with a line feed. A write fails if it returns an error or writes no bytes: it is not retried, nothing more is
-/// written, and the status is 3. Nothing is allocated.
+/// Each output ends with a line feed. A write fails if it returns an error or writes no bytes: it
+/// is not retried, nothing more is written, and the status is 3. Nothing is allocated.
 ///
 /// # Examples
 ///
@@ -72,7 +75,8 @@ pub fn run<O: Write, E: Write>(words: &[&str], out: &mut O, err: &mut E) -> u8
 /// Writes the answer to the arguments, and returns the status if no write fails.
 #[inline(always)]
 fn answer<O: Write, E: Write>(words: &[&str], out: &mut O, err: &mut E) -> Result<u8, fmt::Error>
-    ensures { Ends (texts words.now) (result_unwrap_or result 3) (streams (O.contents out.old) (E.contents err.old))
+    ensures { Ends (texts words.now) (result_unwrap_or result 3)
+        (streams (O.contents out.old) (E.contents err.old))
         (streams (O.contents out.new) (E.contents err.new)) }
 {
     match words {
@@ -85,7 +89,8 @@ fn answer<O: Write, E: Write>(words: &[&str], out: &mut O, err: &mut E) -> Resul
 
 /// Writes the value to `out`, or the error to `err`, and returns the status if no write fails.
 ///
-/// It takes a reference, because the prover does not accept a call with a `Result<Duration, DurationError<'_>>` by value.
+/// It takes a reference, because the prover does not accept a call with a
+/// `Result<Duration, DurationError<'_>>` by value.
 #[inline(always)]
 fn write_result<O: Write, E: Write, V: Display + Copy, F: Display + Copy>(
     parsed: &Result<V, F>,
@@ -94,7 +99,8 @@ fn write_result<O: Write, E: Write, V: Display + Copy, F: Display + Copy>(
 ) -> Result<u8, fmt::Error>
     requires value { IfOk parsed.now (λ v. IsSome (V.output v)) }
     requires error { IfErr parsed.now (λ e. IsSome (F.output e)) }
-    ensures { EndsWith (Some (result_map_both (λ v. unwrap_or (V.output v) []) (λ e. unwrap_or (F.output e) []) parsed.now))
+    ensures { EndsWith (Some (result_map_both (λ v. unwrap_or (V.output v) [])
+        (λ e. unwrap_or (F.output e) []) parsed.now))
         (result_unwrap_or result 3) (streams (O.contents out.old) (E.contents err.old))
         (streams (O.contents out.new) (E.contents err.new)) }
 {

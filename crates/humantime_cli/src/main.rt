@@ -21,13 +21,15 @@ fn main(rt: HostRuntime) -> ExitCode {
     ExitCode::from(run_program(&rt).unwrap_or(FAILED))
 }
 
-/// Runs the command given by the program's arguments with standard output and standard error, and returns the exit status.
+/// Runs the command given by the program's arguments with standard output and standard error, and
+/// returns the exit status.
 fn run_program(rt: &HostRuntime) -> io::Result<u8> {
     let args = env::args(&(AfterName(rt), rt.alloc()))?.collect::<Vec<String>>(rt.alloc())?;
     run_args(rt.alloc(), &args, &mut rt.stdout(), &mut rt.stderr())
 }
 
-/// The arguments after the program's name, which may be missing and need not be UTF-8. It has no variables.
+/// The arguments after the program's name, which may be missing and need not be UTF-8. It has no
+/// variables.
 #[derive(Clone, Copy)]
 struct AfterName<'a>(&'a HostRuntime);
 
@@ -53,7 +55,8 @@ fn run_args<O: Write, E: Write>(
     err: &mut E,
 ) -> io::Result<u8>
     ensures { MatchResult result
-        (λ status. Ends (map string_bytes args.now) status (streams (O.contents out.old) (E.contents err.old))
+        (λ status. Ends (map string_bytes args.now) status
+        (streams (O.contents out.old) (E.contents err.old))
         (streams (O.contents out.new) (E.contents err.new)))
         (λ _. Fails (map string_bytes args.now) (streams (O.contents out.old) (E.contents err.old))
         (streams (O.contents out.new) (E.contents err.new))) }

@@ -4,12 +4,14 @@ ghost use Rattle.std.specs.Prelude.{◌≤◌};
 
 use std::fmt;
 
-/// The maximum number of bytes in a piece. Only the message for a unit of more than 72 bytes takes more than one.
+/// The maximum number of bytes in a piece. Only the message for a unit of more than 72 bytes takes
+/// more than one.
 pub(crate) const PIECE_LEN: usize = 192;
 
 /// The bytes of a string from an offset on, as many as fit.
 ///
-/// The whole string is written to it: it skips the bytes before the offset, and drops those that do not fit.
+/// The whole string is written to it: it skips the bytes before the offset, and drops those that do
+/// not fit.
 #[derive(Drop)]
 pub(crate) struct Piece {
     /// The number of bytes that it still skips.

@@ -8,7 +8,8 @@ use crate::piece::{PIECE_LEN, Piece};
 use std::fmt::{self, Display, Write as _};
 use std::io::Write;
 
-/// Replaces the piece by the one from the offset `start` on of the line that [`write_line`] writes. A piece in a `Result` would be copied.
+/// Replaces the piece by the one from the offset `start` on of the line that [`write_line`] writes.
+/// A piece in a `Result` would be copied.
 #[inline(always)]
 #[tactic(auto, using(crate::proofs::PieceLemmas::lines))]
 fn fill<D: Display + Copy>(piece: &mut Piece, start: usize, value: D) -> fmt::Result
@@ -21,16 +22,18 @@ fn fill<D: Display + Copy>(piece: &mut Piece, start: usize, value: D) -> fmt::Re
     piece.write_str("\n")
 }
 
-/// Writes the string that `value` displays and a line feed. A write fails if it returns an error or writes no bytes. Nothing more is written
-/// after a failed write.
+/// Writes the string that `value` displays and a line feed. A write fails if it returns an error or
+/// writes no bytes. Nothing more is written after a failed write.
 ///
-/// If `to` failed within `Display`, no contract would say what it had received. So `value` is displayed to a [`Piece`], which never fails. It
-/// is displayed again, to a piece that begins where the last write ended, only if the line does not fit a piece or takes several writes.
+/// If `to` failed within `Display`, no contract would say what it had received. So `value` is
+/// displayed to a [`Piece`], which never fails. It is displayed again, to a piece that begins where
+/// the last write ended, only if the line does not fit a piece or takes several writes.
 #[inline(always)]
 #[tactic(auto, using(crate::proofs::PieceLemmas::written), unfolding(crate::specs::Writes::Writes))]
 pub(crate) fn write_line<W: Write, D: Display + Copy>(to: &mut W, value: D) -> fmt::Result
     requires { IsSome (D.output value) }
-    ensures { Writes result (W.contents to.old) (W.contents to.new) (line (unwrap_or (D.output value) [])) }
+    ensures { Writes result (W.contents to.old) (W.contents to.new)
+        (line (unwrap_or (D.output value) [])) }
 {
     let mut piece = Piece::new(0);
     let mut done: usize = 0;

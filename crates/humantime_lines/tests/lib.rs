@@ -38,7 +38,12 @@ fn each_hidden_character_is_an_escape(rt: HostRuntime) -> Result<(), Fail> {
             let columns = " ".repeat(alloc, escape.len())?;
             let carets = "^".repeat(alloc, escape.len())?;
             for (text, start, end, lines) in [
-                (format!(in alloc; "{c}")?, 0, len, format!(in alloc; "  {escape}\n  {carets}")?),
+                (
+                    format!(in alloc; "{c}")?,
+                    0,
+                    len,
+                    format!(in alloc; "  {escape}\n  {carets}")?,
+                ),
                 (
                     format!(in alloc; "{c}")?,
                     len,
@@ -86,13 +91,25 @@ fn a_line_feed_ends_the_line(rt: HostRuntime) -> Result<(), Fail> {
         ("~\n", 2, 2, "line 2: wrong\n  \n  ^"),
         // Only a carriage return before a line feed ends a line with it.
         ("~\r", 0, 1, "wrong\n  ~\\u{d}\n  ^"),
-        ("\r~\r\r\n", 1, 2, "line 1: wrong\n  \\u{d}~\\u{d}\n       ^"),
+        (
+            "\r~\r\r\n",
+            1,
+            2,
+            "line 1: wrong\n  \\u{d}~\\u{d}\n       ^",
+        ),
     ] {
         let lines = Report::new("wrong", text, *start..*end).to_string(alloc)?;
         assert_eq!(rt; lines.as_str(), *report);
     }
-    let line = MarkedLine { before: "a\n", part: "\n", after: "\n" };
-    assert_eq!(rt; line.to_string(alloc)?.as_str(), "a\\u{a}\\u{a}\\u{a}\n      ^^^^^");
+    let line = MarkedLine {
+        before: "a\n",
+        part: "\n",
+        after: "\n",
+    };
+    assert_eq!(rt;
+        line.to_string(alloc)?.as_str(),
+        "a\\u{a}\\u{a}\\u{a}\n      ^^^^^"
+    );
     Ok(())
 }
 
@@ -110,7 +127,11 @@ fn any_range_is_shown(rt: HostRuntime) -> Result<(), Fail> {
         ("\u{301}", 0, 2, "  \u{301}\n  ^"),
         ("\u{1b}\0\r", 1, 2, "  \\u{1b}\\u{0}\\u{d}\n        ^^^^^"),
     ] {
-        assert_eq!(rt; lines_of(rt.alloc(), text, *start, *end)?.as_str(), *lines, "{text}");
+        assert_eq!(rt;
+            lines_of(rt.alloc(), text, *start, *end)?.as_str(),
+            *lines,
+            "{text}"
+        );
     }
     Ok(())
 }
@@ -146,13 +167,21 @@ fn a_wide_line_is_cut(rt: HostRuntime) -> Result<(), Fail> {
             Ok(format!(in alloc; "{front}{wrong}{}", "µ".repeat(alloc, back)?)?)
         };
         let start = if kept < front { "..." } else { "" };
-        let end = if marked + left < wrong + back { "..." } else { "" };
+        let end = if marked + left < wrong + back {
+            "..."
+        } else {
+            ""
+        };
         let blanks = " ".repeat(alloc, 2 + start.len() + kept)?;
         let carets = "^".repeat(alloc, marked.max(1))?;
         let seen = line(kept, marked, left)?;
         let lines = format!(in alloc; "  {start}{seen}{end}\n{blanks}{carets}")?;
         let text = line(front, wrong, back)?;
-        assert_eq!(rt; lines_of(alloc, &text, front, front + 2 * wrong)?, lines, "{text}");
+        assert_eq!(rt;
+            lines_of(alloc, &text, front, front + 2 * wrong)?,
+            lines,
+            "{text}"
+        );
     }
     Ok(())
 }
@@ -175,10 +204,19 @@ fn a_megabyte_is_cut(rt: HostRuntime) -> Result<(), Fail> {
         let back = Escaped(&unit.repeat(alloc, kept)?).to_string(alloc)?;
         let (line, carets) = shown.split_once('\n').ok_or("one line")?;
         let (start, end) = line.split_once('~').ok_or("no character that is wrong")?;
-        assert!(rt; start.starts_with("  ...") && start.ends_with(front.as_str()), "{line}");
+        assert!(rt;
+            start.starts_with("  ...") && start.ends_with(front.as_str()),
+            "{line}"
+        );
         assert!(rt; end.ends_with("...") && carets.ends_with('^'), "{line}");
-        assert!(rt; back.starts_with(end.strip_suffix("...").ok_or("no dots")?), "{line}");
-        assert!(rt; line.chars().count() <= 80 && carets.chars().count() <= 80, "{line}");
+        assert!(rt;
+            back.starts_with(end.strip_suffix("...").ok_or("no dots")?),
+            "{line}"
+        );
+        assert!(rt;
+            line.chars().count() <= 80 && carets.chars().count() <= 80,
+            "{line}"
+        );
     }
     Ok(())
 }

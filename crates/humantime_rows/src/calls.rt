@@ -11,7 +11,8 @@ use humantime::{
 use std::fmt::{self, Formatter, Write};
 use std::str::{FromStr, SplitWhitespace};
 
-/// Writes the result of a row's call, or returns `None` if it has none: no call has this name and argument, or the string has no error.
+/// Writes the result of a row's call, or returns `None` if it has none: no call has this name and
+/// argument, or the string has no error.
 pub(crate) fn write_call<W: Write>(f: &mut Formatter<W>, row: Row<'_>) -> Option<fmt::Result> {
     let text = row.text();
     Some(match row.call {
@@ -37,7 +38,8 @@ pub(crate) fn write_call<W: Write>(f: &mut Formatter<W>, row: Row<'_>) -> Option
     })
 }
 
-/// Writes the result of a call with numbers, or returns `None` if no call has this name and these numbers.
+/// Writes the result of a call with numbers, or returns `None` if no call has this name and these
+/// numbers.
 fn write_numbered<W: Write>(
     f: &mut Formatter<W>,
     row: Row<'_>,
@@ -73,7 +75,8 @@ fn write_numbered<W: Write>(
     })
 }
 
-/// Writes the result of a call of `StdDuration`, or returns `None` if none has this name and these numbers.
+/// Writes the result of a call of `StdDuration`, or returns `None` if none has this name and these
+/// numbers.
 fn write_duration<W: Write>(
     f: &mut Formatter<W>,
     name: &str,

@@ -3,8 +3,8 @@
 use crate::writing::{Compared, agree};
 use std::fmt::{self, Display, Write};
 
-/// A writer that expects one string. It compares what is written with it, stores nothing, counts the writes, and fails after a write that
-/// differs.
+/// A writer that expects one string. It compares what is written with it, stores nothing, counts
+/// the writes, and fails after a write that differs.
 #[derive(Drop)]
 struct Wanted<'a> {
     /// The rest of the expected string, until a write differs from it.
@@ -35,14 +35,16 @@ pub fn is_written<D: Display + Drop>(value: D, text: &str, most: u32) -> bool {
     }
 }
 
-/// Compares whether a value is written as a string, in at most so many writes, with each of some formats.
+/// Compares whether a value is written as a string, in at most so many writes, with each of some
+/// formats.
 macro_rules! compare_each {
     ($value:ident, $text:ident, $most:ident, $($format:literal)+) => {
         $(agree($format, is_written(format_args!($format, $value), $text, $most))?;)+
     };
 }
 
-/// Compares whether the value is written as this string in at most `most` writes with any format, and stops at the first write that fails.
+/// Compares whether the value is written as this string in at most `most` writes with any format,
+/// and stops at the first write that fails.
 pub(crate) fn compare_formats<T: Display>(value: &T, text: &str, most: u32) -> Compared {
     agree("a writer that fails", refused_requests(value) == 1)?;
     compare_each!(value, text, most, "{}" "{:>80}" "{:*<200}" "{:.3}" "{:+}" "{:#}" "{:030}" "{:5}");
@@ -50,7 +52,8 @@ pub(crate) fn compare_formats<T: Display>(value: &T, text: &str, most: u32) -> C
     Ok(())
 }
 
-/// Returns the number of writes that `Display` makes to a writer that always fails, or `u32::MAX` if it returns `Ok`.
+/// Returns the number of writes that `Display` makes to a writer that always fails, or `u32::MAX`
+/// if it returns `Ok`.
 pub(crate) fn refused_requests<T: Display>(value: &T) -> u32 {
     let mut writer = Wanted {
         rest: None,

@@ -11,7 +11,8 @@ use std::fmt::{self, Formatter, Write};
 /// What a buffer holds before a call.
 const FILLED: &[u8; 64] = b"ABCDEFGHIJKLMNOPQRSTUVWXYZabcdefghijklmnopqrstuvwxyz0123456789+-";
 
-/// Writes the seconds and nanoseconds of the string, or its error, which is also that of `canonical`. That leaves the buffer unchanged.
+/// Writes the seconds and nanoseconds of the string, or its error, which is also that of
+/// `canonical`. That leaves the buffer unchanged.
 pub(crate) fn parse<W: Write>(f: &mut Formatter<W>, text: &str) -> fmt::Result {
     let mut buf = *FILLED;
     match parse_duration(text) {
@@ -43,7 +44,8 @@ pub(crate) fn print<W: Write>(f: &mut Formatter<W>, value: StdDuration) -> fmt::
     write_result(f, text, compare_prints(value, text))
 }
 
-/// Compares whether every call that prints the duration prints this string, and the string is parsed to the duration.
+/// Compares whether every call that prints the duration prints this string, and the string is
+/// parsed to the duration.
 fn compare_prints(value: StdDuration, text: &str) -> Compared {
     let (printed, mut buf) = (format_duration(value), [b'x'; 64]);
     agree("text", printed.text(&mut buf) == text)?;
@@ -67,7 +69,8 @@ pub(crate) fn split<W: Write>(f: &mut Formatter<W>, text: &str) -> fmt::Result {
     write!(f, "{first:?}, {second:?}, {third:?}")
 }
 
-/// Writes `Ok((NUMBER, FRACTION, UNIT, START, END, VALUE)), ` for a span, with its strings as they are: `{:?}` would write escapes.
+/// Writes `Ok((NUMBER, FRACTION, UNIT, START, END, VALUE)), ` for a span, with its strings as they
+/// are: `{:?}` would write escapes.
 fn write_span<W: Write>(f: &mut Formatter<W>, span: Span<'_>) -> fmt::Result {
     write!(f, "Ok((\"{}\", ", span.number())?;
     match span.fraction() {

@@ -1,9 +1,12 @@
-//! Compares the results of the library with the rows of a table, each of which has a call, its argument and its result.
+//! Compares the results of the library with the rows of a table, each of which has a call, its
+//! argument and its result.
 //!
-//! A line of standard input has rows with one result, such as `strict|weak "1970-01-01", "" = Err(InvalidFormat)`: one for each of its calls
-//! and each of its arguments. Empty lines and those that begin with `#` are skipped. Rows after `wrong: ` are wrong on purpose: they have to
-//! differ, and are printed with the library's result, which shows that rows are compared. Any other row that differs is printed, too, and so
-//! is a wrong one that does not. The last line counts the rows that hold.
+//! A line of standard input has rows with one result, such as
+//! `strict|weak "1970-01-01", "" = Err(InvalidFormat)`: one for each of its calls and each of its
+//! arguments. Empty lines and those that begin with `#` are skipped. Rows after `wrong: ` are wrong
+//! on purpose: they have to differ, and are printed with the library's result, which shows that
+//! rows are compared. Any other row that differs is printed, too, and so is a wrong one that does
+//! not. The last line counts the rows that hold.
 #![tactic(auto)]
 
 mod calls;

@@ -16,7 +16,8 @@ pub struct Row<'a> {
 }
 
 impl<'a> Row<'a> {
-    /// Returns the row of a call, of an argument and of a result with escapes, which `room` holds without them.
+    /// Returns the row of a call, of an argument and of a result with escapes, which `room` holds
+    /// without them.
     pub fn new(
         call: &'a str,
         argument: &str,
@@ -55,7 +56,8 @@ impl Display for Row<'_> {
     }
 }
 
-/// Returns the calls of a line, their arguments and their result: each call has it with each argument.
+/// Returns the calls of a line, their arguments and their result: each call has it with each
+/// argument.
 pub fn split_line(line: &str) -> (&str, &str, &str) {
     let (head, wanted) = line.rsplit_once(" = ").unwrap_or_default();
     let (calls, arguments) = head.split_once(' ').unwrap_or((head, ""));

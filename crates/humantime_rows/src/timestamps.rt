@@ -11,8 +11,8 @@ use std::fmt::{self, Formatter, Write};
 /// What a buffer holds before a call.
 const FILLED: &[u8; 30] = b"ABCDEFGHIJKLMNOPQRSTUVWXYZabcd";
 
-/// Writes the string of a time, as the call of this name prints it, or returns `None` if no call has this name. A time without a string
-/// leaves the buffer unchanged.
+/// Writes the string of a time, as the call of this name prints it, or returns `None` if no call
+/// has this name. A time without a string leaves the buffer unchanged.
 pub(crate) fn print<W: Write>(
     f: &mut Formatter<W>,
     call: &str,

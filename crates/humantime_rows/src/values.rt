@@ -15,7 +15,8 @@ pub(crate) fn moment_parts(moment: SystemTime) -> (i64, u32) {
     (moment.unix_seconds(), moment.subsec_nanos())
 }
 
-/// Writes the order of two values. Their hashes have to be equal if the values are, and those of their wrappers.
+/// Writes the order of two values. Their hashes have to be equal if the values are, and those of
+/// their wrappers.
 pub(crate) fn compare<W: Write, V: Ord + Hash + Copy, T: From<V> + Hash + Drop>(
     f: &mut Formatter<W>,
     first: V,

@@ -11,7 +11,8 @@ pub(crate) fn agree(name: &'static str, holds: bool) -> Compared {
     if holds { Ok(()) } else { Err(name) }
 }
 
-/// Writes a value as `{:?}` does, followed by the name of a comparison with another call or format that does not hold, if there is one.
+/// Writes a value as `{:?}` does, followed by the name of a comparison with another call or format
+/// that does not hold, if there is one.
 pub(crate) fn write_result<W: Write, T: Debug + Drop>(
     f: &mut Formatter<W>,
     value: T,
@@ -23,7 +24,8 @@ pub(crate) fn write_result<W: Write, T: Debug + Drop>(
     }
 }
 
-/// Writes the message of an error, followed by a format that changes it or needs more than `most` writes, if there is one.
+/// Writes the message of an error, followed by a format that changes it or needs more than `most`
+/// writes, if there is one.
 pub(crate) fn write_message<W: Write, E: Display + Copy>(
     f: &mut Formatter<W>,
     error: E,

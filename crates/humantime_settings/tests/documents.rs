@@ -930,10 +930,7 @@ fn documents_end_in_a_string(rt: HostRuntime) -> Result<(), Fail> {
         for (end, _) in string.char_indices().skip(1) {
             let text = format!(in rt.alloc(); "{before}{}^", &string[..end])?;
             let read = reader(reads!(Jobs), &text);
-            assert_eq!(rt;
-                difference(&rt, read, &text, Some(message))?.as_str(),
-                ""
-            );
+            assert_eq!(rt; difference(&rt, read, &text, Some(message))?.as_str(), "");
         }
     }
     Ok(())

@@ -18,7 +18,9 @@ const HIDDEN: [(u32, u32); 7] = [
 ];
 
 fn is_hidden(c: char) -> bool {
-    HIDDEN.iter().any(|(first, last)| *first <= c as u32 && c as u32 <= *last)
+    HIDDEN
+        .iter()
+        .any(|(first, last)| *first <= c as u32 && c as u32 <= *last)
 }
 
 /// Returns a string with its escapes.
@@ -61,8 +63,14 @@ fn assert_shows(
 ) -> Result<(), Fail> {
     let (rest, carets) = printed.rsplit_once('\n').ok_or("no caret line")?;
     let (_, line) = rest.rsplit_once('\n').ok_or("no line")?;
-    assert!(rt; !line.chars().chain(carets.chars()).any(is_hidden), "{printed:?}");
-    assert!(rt; column_after(line) <= 80 && column_after(carets) <= 80, "{printed:?}");
+    assert!(rt;
+        !line.chars().chain(carets.chars()).any(is_hidden),
+        "{printed:?}"
+    );
+    assert!(rt;
+        column_after(line) <= 80 && column_after(carets) <= 80,
+        "{printed:?}"
+    );
     let before = text[..start].rsplit('\n').next().unwrap_or("");
     let after = text[start..].lines().next().unwrap_or("");
     let part = &after[..(end - start).min(after.len())];
@@ -76,13 +84,19 @@ fn assert_shows(
         let (front, back) = line.split_at(at);
         let front = front.strip_prefix(indent).unwrap_or("no indent");
         let is_front = front == before.as_str()
-            || front.strip_prefix("...").is_some_and(|kept| before.ends_with(kept));
+            || front
+                .strip_prefix("...")
+                .is_some_and(|kept| before.ends_with(kept));
         let kept = match back.strip_suffix("...") {
             Some(kept) if back != after.as_str() => kept,
             _ => back,
         };
         let is_back = back == after.as_str() || kept != back && after.starts_with(kept);
-        let marked = if kept.len() < part.len() { kept } else { part.as_str() };
+        let marked = if kept.len() < part.len() {
+            kept
+        } else {
+            part.as_str()
+        };
         let columns = marked.chars().map(width).sum::<usize>().max(1);
         let is_under = column_after(&line[..at]) == column_after(blanks)
             && carets.len() == blanks.len() + columns;
@@ -95,12 +109,15 @@ fn assert_shows(
 
 /// The characters of which drawn strings are made, the others more often than those that are
 /// hidden.
-const OTHERS: [char; 14] =
-    ['5', ' ', 's', '~', '\t', '-', 'x', '中', 'é', '\u{301}', '😀', '\u{feff}', '\'', '"'];
+const OTHERS: [char; 14] = [
+    '5', ' ', 's', '~', '\t', '-', 'x', '中', 'é', '\u{301}', '😀', '\u{feff}', '\'', '"',
+];
 
 /// Returns the next number of a generator.
 fn draw(state: &mut u64, below: usize) -> usize {
-    *state = state.wrapping_mul(6_364_136_223_846_793_005).wrapping_add(1_442_695_040_888_963_407);
+    *state = state
+        .wrapping_mul(6_364_136_223_846_793_005)
+        .wrapping_add(1_442_695_040_888_963_407);
     (*state >> 33) as usize % below
 }
 
@@ -123,13 +140,24 @@ fn drawn_strings_are_shown(rt: HostRuntime) -> Result<(), Fail> {
     let mut state = 1;
     for _ in 0..2000 {
         let text = drawn_text(&rt, &mut state)?;
-        let (first, second) = (draw(&mut state, text.len() + 1), draw(&mut state, text.len() + 1));
+        let (first, second) = (
+            draw(&mut state, text.len() + 1),
+            draw(&mut state, text.len() + 1),
+        );
         let start = text.floor_char_boundary(first.min(second));
         let end = text.floor_char_boundary(first.max(second));
-        let report = Located { error: "wrong", start, end }.report(&text).to_string(rt.alloc())?;
+        let report = Located {
+            error: "wrong",
+            start,
+            end,
+        }
+        .report(&text)
+        .to_string(rt.alloc())?;
         assert_shows(&rt, &report, "  ", (&text, start, end))?;
         for read in reads!(Wait) {
-            let Some(error) = read(rt.alloc(), &text) else { continue };
+            let Some(error) = read(rt.alloc(), &text) else {
+                continue
+            };
             let SettingsError::At { offset, part, .. } = &error else {
                 panic!(rt; "{error:?}");
             };

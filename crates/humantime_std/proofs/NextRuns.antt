@@ -18,19 +18,24 @@ first_run last now every early = record {
   first = λ u due. omega (arith, ints, mul-le 1 every due.periods every due.later (omega arith));
 }
 
--- Whole periods that are not shorter than the gap, but shorter than the gap and one more period, lead to the next run.
-run_after_gap : (last now : ℤ) (gap every wait k : ℕ) → now ≡ last +ℤ pos gap → 0 < gap → wait ≡ k * every → gap ≤ wait → wait < gap + every
+-- Whole periods that are not shorter than the gap, but shorter than the gap and one more period,
+-- lead to the next run.
+run_after_gap : (last now : ℤ) (gap every wait k : ℕ) → now ≡ last +ℤ pos gap → 0 < gap
+    → wait ≡ k * every → gap ≤ wait → wait < gap + every
     → IsNextRun last every now (last +ℤ pos wait)
 run_after_gap last now gap every wait k is some whole reached short =
-    let least : (j : ℕ) → gap ≤ j * every → k * every ≤ j * every = λ j reached. grind (arith, (cases_lt j k), (row_fits j every k every), (mul-le k every j every)) in
+    let least : (j : ℕ) → gap ≤ j * every → k * every ≤ j * every = λ j reached.
+    grind (arith, (cases_lt j k), (row_fits j every k every), (mul-le k every j every)) in
     record {
       due = record { periods = k; later = grind arith; at = omega (arith, ints); reached = omega (arith, ints) };
       first = λ u due. omega (arith, ints, least due.periods (omega (arith, ints)));
     }
 
 -- An answer is the next run if that is in range, and otherwise no run in range is due.
-is_answer : (last now t : ℤ) (every : ℕ) (r : Option ℤ) → IsNextRun last every now t → SomeIff r (t <ℤ moment_end) t
-    → IfSome r (IsNextRun last every now) × (IsNone r ↔ ((u : ℤ) → IsDue last every now u → moment_end ≤ℤ u))
+is_answer : (last now t : ℤ) (every : ℕ) (r : Option ℤ) → IsNextRun last every now t
+    → SomeIff r (t <ℤ moment_end) t
+    → IfSome r (IsNextRun last every now)
+    × (IsNone r ↔ ((u : ℤ) → IsDue last every now u → moment_end ≤ℤ u))
 is_answer last now t every None is given =
     (tt, (λ none u due. grind (arith, ints, (is.first u due)), λ all. search rules))
 is_answer last now t every (Some x) is given = (
@@ -39,17 +44,24 @@ is_answer last now t every (Some x) is given = (
 )
 
 -- The answer after a gap.
-pub next_from_gap : (last now : ℤ) (gap every : ℕ) (r : Option ℤ) → let t = last +ℤ pos every in let later = last +ℤ pos (div_ceil gap every * every) in
-    (gap ≡ 0 → SomeIff r (t <ℤ moment_end) t) → (0 < gap → every ≡ 0 → IsNone r) → (0 < gap → 0 < every → SomeIff r (later <ℤ moment_end) later)
+pub next_from_gap : (last now : ℤ) (gap every : ℕ) (r : Option ℤ) → let t =
+    last +ℤ pos every in let later = last +ℤ pos (div_ceil gap every * every) in
+    (gap ≡ 0 → SomeIff r (t <ℤ moment_end) t) → (0 < gap → every ≡ 0 → IsNone r)
+    → (0 < gap → 0 < every → SomeIff r (later <ℤ moment_end) later)
     → (now ≤ℤ last → gap ≡ 0) → (last ≤ℤ now → now ≡ last +ℤ pos gap)
-    → IfSome r (IsNextRun last every now) × (IsNone r ↔ ((u : ℤ) → IsDue last every now u → moment_end ≤ℤ u))
+    → IfSome r (IsNextRun last every now)
+    × (IsNone r ↔ ((u : ℤ) → IsDue last every now u → moment_end ≤ℤ u))
 next_from_gap last now zero every r first never next early late =
     is_answer last now _ every r (first_run last now every (grind (arith, ints, late))) (first refl)
-next_from_gap last now (suc g) zero None first never next early late = (tt, (λ none u due. absurd (grind (arith, ints, early, due)), λ all. search rules))
-next_from_gap last now (suc g) zero (Some x) first never next early late = absurd (search (rules, never (omega arith) refl))
+next_from_gap last now (suc g) zero None first never next early late =
+    (tt, (λ none u due. absurd (grind (arith, ints, early, due)), λ all. search rules))
+next_from_gap last now (suc g) zero (Some x) first never next early late =
+    absurd (search (rules, never (omega arith) refl))
 next_from_gap last now (suc g) (suc e) r first never next early late =
     let ends = div_ceil_times (suc g) (suc e) (omega arith) in
-    let whole = run_after_gap last now (suc g) (suc e) _ (div_ceil (suc g) (suc e)) (late (grind (arith, ints, early))) (omega arith) refl ends.0 ends.1 in
+    let whole =
+    run_after_gap last now (suc g) (suc e) _ (div_ceil (suc g) (suc e))
+    (late (grind (arith, ints, early))) (omega arith) refl ends.0 ends.1 in
     is_answer last now _ (suc e) r whole (next (omega arith) (omega arith))
 
 -- ---- monthly runs

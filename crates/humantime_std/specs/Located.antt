@@ -1,4 +1,5 @@
--- The bytes that are wrong in a text that is not a timestamp or a duration. A text is its list of bytes.
+-- The bytes that are wrong in a text that is not a timestamp or a duration. A text is its list of
+-- bytes.
 use Rattle.std.specs.Prelude.{◌≡◌, chars, ◌+◌, ◌==◌, ◌||◌, ◌&&◌, nat_eq, nat_le, not, min, if◌then◌else◌, ⊤, ℕ, zero, suc, Bool, true, false, List, [], ◌∷◌, length, drop, slice_index, codes, Option, option_map}
 use Rattle.std.specs.Char.{is_ascii_digit}
 use Rattle.std.specs.Int.{is_in_range}
@@ -16,13 +17,16 @@ use Rattle.humantime.specs.TimestampResults.{strict_answer, weak_answer}
 use Rattle.humantime.specs.Timestamps.{date_time_of}
 use Rattle.humantime_std.specs.declared.located.Located.{Located}
 
--- Returns the offset after the character that begins at an offset, or the end of the text if none does.
+-- Returns the offset after the character that begins at an offset, or the end of the text if none
+-- does.
 unfoldable pub char_end : List ℕ → ℕ → ℕ
-char_end text at = min (at + 1 + prefix_len (is_in_range 128 191) (drop (at + 1) text)) (length text)
+char_end text at =
+    min (at + 1 + prefix_len (is_in_range 128 191) (drop (at + 1) text)) (length text)
 
 -- ---- Timestamps
 
--- The first 19 bytes: `0` is any digit, a space is a `T` or, in the weak form, a space, and another byte is that byte.
+-- The first 19 bytes: `0` is any digit, a space is a `T` or, in the weak form, a space, and another
+-- byte is that byte.
 abbrev pub layout : List ℕ
 layout = codes "0000-00-00 00:00:00"
 
@@ -50,13 +54,16 @@ wrong_field b =
 
 -- Returns the offset after the seconds and the fraction, if any.
 unfoldable pub fraction_end : List ℕ → ℕ
-fraction_end b = if slice_index b 19 == byte "." then 20 + prefix_len is_ascii_digit (drop 20 b) else 19
+fraction_end b =
+    if slice_index b 19 == byte "." then 20 + prefix_len is_ascii_digit (drop 20 b) else 19
 
 -- Returns the length of the zone at the front of a text, or 0 if there is none.
 unfoldable pub zone_len : List ℕ → ℕ
-zone_len rest = if starts_with nat_eq rest (codes "Z") then 1 else if starts_with nat_eq rest (codes "+00:00") then 6 else 0
+zone_len rest = if starts_with nat_eq rest (codes "Z") then 1
+    else if starts_with nat_eq rest (codes "+00:00") then 6 else 0
 
--- Returns the length of the longest timestamp at the front of a text: with its fraction, if any, and its zone, if any.
+-- Returns the length of the longest timestamp at the front of a text: with its fraction, if any,
+-- and its zone, if any.
 abbrev pub timestamp_len : List ℕ → ℕ
 timestamp_len b = fraction_end b + zone_len (drop (fraction_end b) b)
 
@@ -66,8 +73,8 @@ abbrev pub range_after : List ℕ → TimestampError → ℕ × ℕ
 range_after b OutOfRange = wrong_field b
 range_after b _ = (timestamp_len b, length b)
 
--- The bytes of an error: the first character that does not fit the layout, or the end of the text if
--- it ends there; if the layout fits, those after it.
+-- The bytes of an error: the first character that does not fit the layout, or the end of the text
+-- if it ends there; if the layout fits, those after it.
 abbrev pub error_range : Bool → List ℕ → TimestampError → ℕ × ℕ
 error_range strict b e =
     let n = fit_len strict b in
@@ -75,7 +82,8 @@ error_range strict b e =
 
 -- Returns an error of a text with its bytes.
 abbrev pub located : Bool → List ℕ → TimestampError → Located TimestampError
-located strict b e = record { error = e; start = (error_range strict b e).0; end = (error_range strict b e).1 }
+located strict b e =
+    record { error = e; start = (error_range strict b e).0; end = (error_range strict b e).1 }
 
 -- Returns the error of a text in the weak form, if any, with its bytes.
 abbrev pub weak_error : List ℕ → Option (Located TimestampError)
@@ -87,14 +95,17 @@ strict_error b = option_map (located true b) (result_err (strict_answer b))
 
 -- ---- Durations
 
--- The text, as characters, overflows at the span between these offsets: the spans before it are within the limits, and together with it
--- they are not, or its number or its fraction is too long, and the range ends with the text.
+-- The text, as characters, overflows at the span between these offsets: the spans before it are
+-- within the limits, and together with it they are not, or its number or its fraction is too long,
+-- and the range ends with the text.
 pub record OverflowsAt (text : List ℕ) (start end : ℕ) : Type 0 where
   pub fault : HasFault text NumberOverflow
   pub at_start : start ≡ offset_of text fault.rest
-  pub at_end : end ≡ (if too_long (span_of fault.rest) then byte_length text else offset_of text (after_word fault.rest))
+  pub at_end : end ≡ (if too_long (span_of fault.rest) then byte_length text
+      else offset_of text (after_word fault.rest))
 
--- The bytes of a duration's fault: the character that is wrong, the unit, the span at which the text overflows, or the whole text.
+-- The bytes of a duration's fault: the character that is wrong, the unit, the span at which the
+-- text overflows, or the whole text.
 abbrev pub IsFaultRange : List ℕ → Fault → ℕ → ℕ → Type 0
 IsFaultRange text (InvalidCharacter at) start end = (start ≡ at) × (end ≡ char_end text at)
 IsFaultRange text (NumberExpected at) start end = (start ≡ at) × (end ≡ char_end text at)
@@ -102,7 +113,8 @@ IsFaultRange text (UnknownUnit from to unit value) start end = (start ≡ from) 
 IsFaultRange text NumberOverflow start end = OverflowsAt (chars text) start end
 IsFaultRange text Empty start end = (start ≡ 0) × (end ≡ length text)
 
--- ---- The spans at the front of a text, which is its list of characters: what the contracts of private functions cite
+-- ---- The spans at the front of a text, which is its list of characters: what the contracts of
+-- private functions cite
 
 -- Returns the text without its leading whitespace.
 abbrev pub body : List ℕ → List ℕ
@@ -123,7 +135,8 @@ abbrev pub BeginsSpans : ℕ → List ℕ → Type 0
 BeginsSpans zero rest = ⊤
 BeginsSpans (suc k) rest = BeginsSpan rest × BeginsSpans k (body (after_word rest))
 
--- Returns the offset of what follows the first `k` spans, after any whitespace, and the whitespace after each.
+-- Returns the offset of what follows the first `k` spans, after any whitespace, and the whitespace
+-- after each.
 abbrev pub start_at : ℕ → List ℕ → ℕ
 start_at k text = offset_of text (drop_spans k (body text))
 

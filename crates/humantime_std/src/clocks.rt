@@ -13,7 +13,8 @@ use std::{io, thread};
 ///
 /// # Errors
 ///
-/// Returns an error if the clock cannot be read, or reads a time before 1970, or one 2^63 seconds after 1970 or later.
+/// Returns an error if the clock cannot be read, or reads a time before 1970, or one 2^63 seconds
+/// after 1970 or later.
 ///
 /// # Examples
 ///
@@ -29,8 +30,8 @@ pub fn now(clock: &impl Clock) -> io::Result<SystemTime>
     Ok(SystemTime::from_std(time::SystemTime::now(clock)?).unwrap())
 }
 
-/// Puts the current thread to sleep for at least a duration, if `clock` is the runtime. Another `Clock` may return at any time. No contract
-/// can say how long it sleeps.
+/// Puts the current thread to sleep for at least a duration, if `clock` is the runtime. Another
+/// `Clock` may return at any time. No contract can say how long it sleeps.
 ///
 /// # Examples
 ///
@@ -48,7 +49,8 @@ pub fn sleep(clock: &impl Clock, duration: StdDuration) {
     thread::sleep(clock, duration.to_std())
 }
 
-/// Returns the time since an instant, less than 2^63 seconds, or zero if the clock reads an earlier one.
+/// Returns the time since an instant, less than 2^63 seconds, or zero if the clock reads an earlier
+/// one.
 ///
 /// # Errors
 ///
@@ -70,8 +72,8 @@ pub fn elapsed(clock: &impl Clock, start: Instant) -> io::Result<StdDuration>
     Ok(time_left(start, Instant::now(clock)?))
 }
 
-/// Returns the end of a time limit that begins at `now`, or `None` if it is too late for an `Instant`: 2^63 seconds or more after the start
-/// of std's clock.
+/// Returns the end of a time limit that begins at `now`, or `None` if it is too late for an
+/// `Instant`: 2^63 seconds or more after the start of std's clock.
 ///
 /// # Examples
 ///

@@ -1,4 +1,5 @@
-//! Methods of std's `Duration` for [`StdDuration`], conversions from and to it, and the offset of a duration's error.
+//! Methods of std's `Duration` for [`StdDuration`], conversions from and to it, and the offset of a
+//! duration's error.
 
 ghost use Rattle.std.specs.Prelude.{◌≡◌, ◌≢◌, ◌-◌, ◌*◌, ◌/◌, ◌<◌, ◌≤◌, ◌↔◌, ℕ, min, option_map, IsTrue, SomeIff};
 ghost use Rattle.std.specs.Duration.{as_nanos};
@@ -10,7 +11,8 @@ use std::time;
 
 const NANOS_PER_SECOND: u128 = 1_000_000_000;
 
-/// Further methods of [`StdDuration`], most of them named as in std's `Duration`, and conversions from and to that.
+/// Further methods of [`StdDuration`], most of them named as in std's `Duration`, and conversions
+/// from and to that.
 ///
 /// # Examples
 ///
@@ -72,7 +74,8 @@ pub trait StdDurationExt: Sized {
 
     /// Returns this duration in nanoseconds.
     ///
-    /// A share in percent is `(part.as_nanos() * 100).checked_div(whole.as_nanos())`, where no product overflows.
+    /// A share in percent is `(part.as_nanos() * 100).checked_div(whole.as_nanos())`, where no
+    /// product overflows.
     ///
     /// # Examples
     ///
@@ -127,7 +130,8 @@ pub trait StdDurationExt: Sized {
     /// assert_eq!(rt; StdDuration::ZERO.checked_sub(long), None);
     /// ```
     fn checked_sub(self, other: Self) -> Option<Self>
-        ensures { SomeIff (option_map total_nanos result) (total_nanos other ≤ total_nanos self) (total_nanos self - total_nanos other) };
+        ensures { SomeIff (option_map total_nanos result) (total_nanos other ≤ total_nanos self)
+            (total_nanos self - total_nanos other) };
 
     /// Subtracts another duration, or returns zero if the difference is negative.
     ///
@@ -154,9 +158,11 @@ pub trait StdDurationExt: Sized {
     /// assert_eq!(rt; StdDuration::MAX.checked_mul(2), None);
     /// ```
     fn checked_mul(self, factor: u64) -> Option<Self>
-        ensures { SomeIff (option_map total_nanos result) (total_nanos self * factor < duration_end) (total_nanos self * factor) };
+        ensures { SomeIff (option_map total_nanos result) (total_nanos self * factor < duration_end)
+            (total_nanos self * factor) };
 
-    /// Divides this duration by a number and truncates to nanoseconds, or returns `None` if the number is zero.
+    /// Divides this duration by a number and truncates to nanoseconds, or returns `None` if the
+    /// number is zero.
     ///
     /// # Examples
     ///
@@ -184,7 +190,8 @@ pub trait StdDurationExt: Sized {
     /// assert_eq!(rt; mean.checked_trunc_to(StdDuration::ZERO), None);
     /// ```
     fn checked_trunc_to(self, step: Self) -> Option<Self>
-        ensures { SomeIff (option_map total_nanos result) (total_nanos step ≢ 0) (total_nanos self / total_nanos step * total_nanos step) };
+        ensures { SomeIff (option_map total_nanos result) (total_nanos step ≢ 0)
+            (total_nanos self / total_nanos step * total_nanos step) };
 
     /// Rounds this duration to the nearest multiple of a step, or up if two are equally near, or
     /// returns `None` if the step is zero or that multiple is longer than `MAX`.
@@ -287,7 +294,8 @@ impl StdDurationExt for StdDuration {
     }
 }
 
-/// Returns the delay before one more try: `factor` times as long as the delay before the last one, but not longer than `most`.
+/// Returns the delay before one more try: `factor` times as long as the delay before the last one,
+/// but not longer than `most`.
 ///
 /// # Examples
 ///
@@ -307,10 +315,11 @@ pub fn next_delay(delay: StdDuration, factor: u64, most: StdDuration) -> StdDura
     }
 }
 
-/// Returns the byte offset of an error in the string that was parsed, or `None` for `NumberOverflow`, which has none.
+/// Returns the byte offset of an error in the string that was parsed, or `None` for
+/// `NumberOverflow`, which has none.
 ///
-/// The offset is that of the character that is wrong, or of the first letter of the unit. It is 0 for `Empty`, and the string's length if a
-/// unit is missing.
+/// The offset is that of the character that is wrong, or of the first letter of the unit. It is 0
+/// for `Empty`, and the string's length if a unit is missing.
 ///
 /// # Examples
 ///

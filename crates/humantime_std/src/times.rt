@@ -34,7 +34,8 @@ pub trait SystemTimeExt: Sized {
     // The number of nanoseconds from 1970 to a time.
     ghost moment: { Self → ℤ };
 
-    /// Converts a time of std, or returns `None` if it is 2^63 seconds or more after 1970. No clock of std returns such a time.
+    /// Converts a time of std, or returns `None` if it is 2^63 seconds or more after 1970. No clock
+    /// of std returns such a time.
     ///
     /// # Examples
     ///
@@ -47,9 +48,11 @@ pub trait SystemTimeExt: Sized {
     /// assert_eq!(rt; SystemTime::from_std(time), SystemTime::from_parts(1_518_568_087, 5));
     /// ```
     fn from_std(time: time::SystemTime) -> Option<Self>
-        ensures { SomeIff (option_map moment result) (FitsClock (system_time_nanos time)) (pos (system_time_nanos time)) };
+        ensures { SomeIff (option_map moment result) (FitsClock (system_time_nanos time))
+            (pos (system_time_nanos time)) };
 
-    /// Converts this time to one of std, or returns `None` if it is before 1970, where std's `SystemTime` begins in Rattle.
+    /// Converts this time to one of std, or returns `None` if it is before 1970, where std's
+    /// `SystemTime` begins in Rattle.
     ///
     /// # Examples
     ///
@@ -64,9 +67,11 @@ pub trait SystemTimeExt: Sized {
     /// assert_eq!(rt; before.to_std(), None);
     /// ```
     fn to_std(self) -> Option<time::SystemTime>
-        ensures { SomeIff (option_map (λ t. pos (system_time_nanos t)) result) (pos 0 ≤ℤ moment self) (moment self) };
+        ensures { SomeIff (option_map (λ t. pos (system_time_nanos t)) result)
+            (pos 0 ≤ℤ moment self) (moment self) };
 
-    /// Subtracts a duration, or returns `None` if the difference is more than 2^63 seconds before 1970.
+    /// Subtracts a duration, or returns `None` if the difference is more than 2^63 seconds before
+    /// 1970.
     ///
     /// # Examples
     ///
@@ -78,7 +83,8 @@ pub trait SystemTimeExt: Sized {
     /// assert_eq!(rt; first.checked_sub(StdDuration::new(0, 1)), None);
     /// ```
     fn checked_sub(self, duration: StdDuration) -> Option<Self>
-        ensures { let t = moment self -ℤ pos duration in SomeIff (option_map moment result) (neg_ℤ moment_end ≤ℤ t) t };
+        ensures { let t = moment self -ℤ pos duration in
+            SomeIff (option_map moment result) (neg_ℤ moment_end ≤ℤ t) t };
 }
 
 impl SystemTimeExt for SystemTime {
@@ -114,8 +120,8 @@ impl SystemTimeExt for SystemTime {
     }
 }
 
-/// Returns when a job runs next: the first of the times `last + every`, `last + 2 * every` and so on that is not before `now`, or `None`
-/// if no `SystemTime` is such a time.
+/// Returns when a job runs next: the first of the times `last + every`, `last + 2 * every` and so
+/// on that is not before `now`, or `None` if no `SystemTime` is such a time.
 ///
 /// If `every` is zero, the only run is at `last`, so the result is `None` for a later `now`.
 ///
@@ -142,12 +148,14 @@ pub fn next_run(last: SystemTime, every: StdDuration, now: SystemTime) -> Option
     run_after(last, gap, every)
 }
 
-/// Returns the first of the times `last + every`, `last + 2 * every` and so on that is not before `last + gap`, if it is a `SystemTime`.
+/// Returns the first of the times `last + every`, `last + 2 * every` and so on that is not before
+/// `last + gap`, if it is a `SystemTime`.
 #[tactic(auto, using(std::proofs::lemmas::Grind::div_ceil_times, std::proofs::lemmas::Int::ints))]
 fn run_after(last: SystemTime, gap: StdDuration, every: StdDuration) -> Option<SystemTime>
     ensures first { let t = last +ℤ pos every in gap ≡ 0 → SomeIff result (t <ℤ moment_end) t }
     ensures never { 0 < gap → every ≡ 0 → IsNone result }
-    ensures later { let t = last +ℤ pos (div_ceil gap every * every) in 0 < gap → 0 < every → SomeIff result (t <ℤ moment_end) t }
+    ensures later { let t = last +ℤ pos (div_ceil gap every * every) in
+        0 < gap → 0 < every → SomeIff result (t <ℤ moment_end) t }
 {
     let (gap, every) = (gap.as_nanos(), every.as_nanos());
     let wait = match gap {

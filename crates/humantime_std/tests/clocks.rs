@@ -1,4 +1,5 @@
-//! What no contract can say: that the calls read the clock that they are given, and let it sleep for as long as they are told.
+//! What no contract can say: that the calls read the clock that they are given, and let it sleep
+//! for as long as they are told.
 
 use humantime::{StdDuration, SystemTime};
 use humantime_std::{elapsed, now, sleep};
@@ -14,7 +15,10 @@ struct Stopped {
 }
 
 fn stopped_at(secs: u64, nanos: u32) -> Stopped {
-    Stopped { reading: Duration::new(secs, nanos), slept: Cell::new(Duration::ZERO) }
+    Stopped {
+        reading: Duration::new(secs, nanos),
+        slept: Cell::new(Duration::ZERO),
+    }
 }
 
 impl Clock for Stopped {
@@ -33,7 +37,11 @@ impl Clock for Stopped {
 
 #[test]
 fn now_reads_the_clock(rt: HostRuntime) {
-    for (secs, nanos) in [(0, 0), (1_518_568_087, 133_999_999), (i64::MAX, 999_999_999)] {
+    for (secs, nanos) in [
+        (0, 0),
+        (1_518_568_087, 133_999_999),
+        (i64::MAX, 999_999_999),
+    ] {
         let time = now(&stopped_at(secs.unsigned_abs(), nanos)).expect(&rt, "no time");
         assert_eq!(rt; Some(time), SystemTime::from_parts(secs, nanos));
     }
@@ -44,7 +52,9 @@ fn now_reads_the_clock(rt: HostRuntime) {
 fn the_clock_sleeps(rt: HostRuntime) {
     let clock = stopped_at(7, 0);
     for (pause, slept) in [
-        (StdDuration::new(90, 5), Duration::new(90, 5)), (StdDuration::new(0, 1), Duration::new(90, 6)), (StdDuration::MAX, Duration::MAX),
+        (StdDuration::new(90, 5), Duration::new(90, 5)),
+        (StdDuration::new(0, 1), Duration::new(90, 6)),
+        (StdDuration::MAX, Duration::MAX),
     ] {
         sleep(&clock, pause);
         assert_eq!(rt; clock.slept.get(), slept);
@@ -54,8 +64,15 @@ fn the_clock_sleeps(rt: HostRuntime) {
 #[test]
 fn elapsed_reads_the_clock(rt: HostRuntime) {
     let start = Instant::now(&stopped_at(7, 999_999_999)).expect(&rt, "no time");
-    for (secs, nanos, time) in [(9, 4, StdDuration::new(1, 5)), (8, 0, StdDuration::new(0, 1)), (7, 0, StdDuration::ZERO)] {
-        assert_eq!(rt; elapsed(&stopped_at(secs, nanos), start).expect(&rt, "no time"), time);
+    for (secs, nanos, time) in [
+        (9, 4, StdDuration::new(1, 5)),
+        (8, 0, StdDuration::new(0, 1)),
+        (7, 0, StdDuration::ZERO),
+    ] {
+        assert_eq!(rt;
+            elapsed(&stopped_at(secs, nanos), start).expect(&rt, "no time"),
+            time
+        );
     }
     assert!(rt; elapsed(&stopped_at(1 << 63, 0), start).is_err());
 }

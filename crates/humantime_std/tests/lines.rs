@@ -6,7 +6,10 @@ use std::test::Fail;
 #[test]
 fn an_empty_string_has_a_line(rt: HostRuntime) -> Result<(), Fail> {
     let error = parse_duration(" \n\t\n").expect_err(&rt, "it is empty");
-    assert_eq!(rt; format!(in rt.alloc(); "{error:#}")?.as_str(), "value was empty");
+    assert_eq!(rt;
+        format!(in rt.alloc(); "{error:#}")?.as_str(),
+        "value was empty"
+    );
     let report = error.report(" \n\t\n").to_string(rt.alloc())?;
     assert_eq!(rt; report.as_str(), "line 1: value was empty\n   \n  ^");
     Ok(())
@@ -32,7 +35,9 @@ fn a_megabyte_after_a_timestamp_is_cut(rt: HostRuntime) -> Result<(), Fail> {
     let text = format!(in alloc; "2018-02-14 00:28:07{}", "x".repeat(alloc, 1 << 20)?)?;
     let error = parse_rfc3339_weak(&text).expect_err(&rt, "it is no timestamp");
     let report = error.report(&text).to_string(alloc)?;
-    let lines = report.strip_prefix("timestamp format is invalid\n").ok_or("another message")?;
+    let lines = report
+        .strip_prefix("timestamp format is invalid\n")
+        .ok_or("another message")?;
     let shown = "x".repeat(alloc, 56)?;
     let carets = "^".repeat(alloc, 56)?;
     let blanks = " ".repeat(alloc, 21)?;

@@ -1,5 +1,6 @@
--- The limits of any number, any fraction and any sum, what any span adds, both also as while trailing zeros of a fraction counted, and how
--- any count is printed: each rule written out, so that it holds at every value.
+-- The limits of any number, any fraction and any sum, what any span adds, both also as while
+-- trailing zeros of a fraction counted, and how any count is printed: each rule written out, so
+-- that it holds at every value.
 use Rattle.humantime.specs.Characters.{decimal_value, without_trailing_zeros}
 use Rattle.humantime.specs.DurationResults.{divided, duration_text}
 use Rattle.humantime.specs.Durations.{in_nanos, in_seconds, in_seconds_and_nanos, scale_of_word, whole_nanos, SpelledSpan, Reads, Accepted, AllHaveRoom, BareZero, SumOf, Formed, WithinLimits, additions, additions_of, fits, fraction_additions, fraction_fits, has_room, has_too_many_digits, of_kind, quantity_nanos, size, times, too_long, total, value}
@@ -20,47 +21,61 @@ small n = nat_le n greatest
 
 -- ---- units
 
--- A unit adds seconds or nanoseconds, and so do its fractions, if it has any: how many of them, and how many nanoseconds these are.
+-- A unit adds seconds or nanoseconds, and so do its fractions, if it has any: how many of them, and
+-- how many nanoseconds these are.
 abbrev amounts : Scale → (ℕ × ℕ) × Option (ℕ × ℕ)
 amounts unit = ((size unit.whole, quantity_nanos unit.whole), option_map (λ x. (size x, quantity_nanos x)) unit.part)
 
 any_unit : (m n : ℕ) → let nanos = n * 1_000_000_000 in
     (amounts whole_nanos ≡ ((1, 1), None)) × (amounts (in_nanos n) ≡ ((n, n), Some (n, n)))
-    × (amounts (in_seconds_and_nanos n) ≡ ((n, nanos), Some (nanos, nanos))) × (amounts (in_seconds n) ≡ ((n, nanos), Some (n, nanos)))
-    × (of_kind (in_nanos m).whole n ≡ (in_nanos n).whole) × (of_kind (in_seconds m).whole n ≡ (in_seconds n).whole)
+    × (amounts (in_seconds_and_nanos n) ≡ ((n, nanos), Some (nanos, nanos)))
+    × (amounts (in_seconds n) ≡ ((n, nanos), Some (n, nanos)))
+    × (of_kind (in_nanos m).whole n ≡ (in_nanos n).whole)
+    × (of_kind (in_seconds m).whole n ≡ (in_seconds n).whole)
 any_unit m n = (refl, refl, refl, refl, refl, refl)
 
 -- ---- digits
 
-trailing_zeros : (ds : List ℕ) (d : ℕ) → (without_trailing_zeros [] ≡ []) × (without_trailing_zeros (ds ++ codes "0") ≡ without_trailing_zeros ds)
+trailing_zeros : (ds : List ℕ) (d : ℕ) → (without_trailing_zeros [] ≡ [])
+    × (without_trailing_zeros (ds ++ codes "0") ≡ without_trailing_zeros ds)
     × ((d == byte "0") ≡ false → without_trailing_zeros (ds ++ d ∷ []) ≡ ds ++ d ∷ [])
 unfolding without_trailing_zeros
 trailing_zeros ds d = (refl, significant_zero ds, significant_last ds d)
 
 -- A number has to fit 64 bits, and a fraction may have nineteen digits without its trailing zeros.
-any_length : (s : SpelledSpan) (fs : List ℕ) → (too_long s ≡ (nat_lt greatest (decimal_value s.number) || has_too_many_digits s.fraction))
-    × (has_too_many_digits None ≡ false) × (has_too_many_digits (Some fs) ≡ nat_lt 19 (length (without_trailing_zeros fs)))
+any_length : (s : SpelledSpan) (fs : List ℕ)
+    → (too_long s ≡ (nat_lt greatest (decimal_value s.number) || has_too_many_digits s.fraction))
+    × (has_too_many_digits None ≡ false)
+    × (has_too_many_digits (Some fs) ≡ nat_lt 19 (length (without_trailing_zeros fs)))
 any_length s fs = (refl, refl, refl)
 
 -- ---- limits of a span of any unit, and what it adds
 
--- The number times the size of the unit has to fit 64 bits, and the fraction has to fit. Both are added.
-any_number : (s : SpelledSpan) (unit : _) → scale_of_word s.word ≡ Some unit → let n = decimal_value s.number * size unit.whole in
-    (fits s ≡ (small n && fraction_fits unit.part s.fraction)) × (additions_of s ≡ of_kind unit.whole n ∷ fraction_additions unit.part s.fraction)
+-- The number times the size of the unit has to fit 64 bits, and the fraction has to fit. Both are
+-- added.
+any_number : (s : SpelledSpan) (unit : _) → scale_of_word s.word ≡ Some unit → let n =
+    decimal_value s.number * size unit.whole in
+    (fits s ≡ (small n && fraction_fits unit.part s.fraction))
+    × (additions_of s ≡ of_kind unit.whole n ∷ fraction_additions unit.part s.fraction)
 any_number s unit is = (rw is refl, rw is refl)
 
--- Without its trailing zeros, a fraction denotes a whole number of what it is a part of, and its product with this fits 64 bits. Of a fraction
--- of nanoseconds nothing is left, and it adds nothing.
-any_fraction : (part : _) (fs : List ℕ) → let ds = without_trailing_zeros fs in let n = decimal_value ds * size part in
+-- Without its trailing zeros, a fraction denotes a whole number of what it is a part of, and its
+-- product with this fits 64 bits. Of a fraction of nanoseconds nothing is left, and it adds
+-- nothing.
+any_fraction : (part : _) (fs : List ℕ) → let ds =
+    without_trailing_zeros fs in let n = decimal_value ds * size part in
     (fraction_fits (Some part) (Some fs) ≡ (small n && (n % 10 ^ length ds == 0)))
-    × (fraction_fits None (Some fs) ≡ (length ds == 0)) × (fraction_fits (Some part) None ≡ true) × (fraction_fits None None ≡ true)
+    × (fraction_fits None (Some fs) ≡ (length ds == 0)) × (fraction_fits (Some part) None ≡ true)
+    × (fraction_fits None None ≡ true)
     × (fraction_additions (Some part) (Some fs) ≡ of_kind part (n / 10 ^ length ds) ∷ [])
-    × (fraction_additions (Some part) None ≡ []) × (fraction_additions None (Some fs) ≡ []) × (fraction_additions None None ≡ [])
+    × (fraction_additions (Some part) None ≡ []) × (fraction_additions None (Some fs) ≡ [])
+    × (fraction_additions None None ≡ [])
 any_fraction part fs = (refl, refl, refl, refl, refl, refl, refl, refl)
 
 -- ---- limits of a sum
 
--- The seconds of the new sum have to fit 64 bits, and added nanoseconds have to do so together with those below a second.
+-- The seconds of the new sum have to fit 64 bits, and added nanoseconds have to do so together with
+-- those below a second.
 room : (t n : ℕ) → (has_room t (in_seconds n).whole ≡ small (t / 1_000_000_000 + n))
     × (has_room t (in_nanos n).whole ≡ (small (t % 1_000_000_000 + n) && small ((t + n) / 1_000_000_000)))
 room t n = (refl, refl)
@@ -69,24 +84,36 @@ room t n = (refl, refl)
 formed : (s : SpelledSpan) → Formed s ↔ ((too_long s ≡ false) × IsSome (scale_of_word s.word))
 formed s = (λ f. (f.short, f.word), λ h. record { short = h.0; word = h.1 })
 
-any_room : (xs : List _) → AllHaveRoom xs ↔ ((before after : List _) (x : _) → xs ≡ before ++ x ∷ after → has_room (total before) x ≡ true)
+any_room : (xs : List _) → AllHaveRoom xs ↔ ((before after : List _) (x : _)
+    → xs ≡ before ++ x ∷ after → has_room (total before) x ≡ true)
 any_room xs = (λ h. h, λ h. h)
 
 any_limits : (spans : List SpelledSpan) → WithinLimits spans
     ↔ (AllByRecursion Formed spans × AllByRecursion (λ s. fits s ≡ true) spans × AllHaveRoom (additions spans))
-any_limits spans = (λ w. (w.formed, w.fit, w.room), λ h. record { formed = h.0; fit = h.1; room = h.2 })
+any_limits spans =
+    (λ w. (w.formed, w.fit, w.room), λ h. record { formed = h.0; fit = h.1; room = h.2 })
 
-any_spans : (text : List ℕ) (s : SpelledSpan) (spans : List SpelledSpan) → (additions (s ∷ spans) ≡ additions_of s ++ additions spans)
-    × (value spans ≡ sum_by quantity_nanos (additions spans)) × (Reads text spans → WithinLimits spans → Accepted text (value spans))
+any_spans : (text : List ℕ) (s : SpelledSpan) (spans : List SpelledSpan)
+    → (additions (s ∷ spans) ≡ additions_of s ++ additions spans)
+    × (value spans ≡ sum_by quantity_nanos (additions spans))
+    × (Reads text spans → WithinLimits spans → Accepted text (value spans))
     × Accepted (codes "0") 0 × AcceptedWithZeros (codes "0") 0
-any_spans text s spans = (refl, refl, λ reads within. SumOf spans reads within refl, BareZero refl refl, OlderZero refl refl)
+any_spans text s spans = (
+  refl,
+  refl,
+  λ reads within. SumOf spans reads within refl,
+  BareZero refl refl,
+  OlderZero refl refl,
+)
 
 -- ---- while trailing zeros of a fraction counted
 
--- A span had a number which, like its product with the unit, did not exceed a `u64`, and its fraction was within its limits.
+-- A span had a number which, like its product with the unit, did not exceed a `u64`, and its
+-- fraction was within its limits.
 older_span : (s : SpelledSpan) (unit : _) → scale_of_word s.word ≡ Some unit
     → OlderFormed s
-    ↔ ((decimal_value s.number ≤ greatest) × (decimal_value s.number * size unit.whole ≤ greatest) × OlderFraction unit.part s.fraction)
+    ↔ ((decimal_value s.number ≤ greatest) × (decimal_value s.number * size unit.whole ≤ greatest)
+    × OlderFraction unit.part s.fraction)
 older_span s unit is = (
   λ h.
       let same : h.unit ≡ unit = ap (λ u. unwrap_or u unit) (sym h.word ∙ is) in
@@ -94,29 +121,41 @@ older_span s unit is = (
   λ h. record { unit = unit; word = is; number = h.0; product = h.1; fraction = h.2 },
 )
 
--- A fraction had at most 19 digits, zeros counted. Their product with what they are parts of did not exceed a `u64`, and was a multiple of
--- their power of ten. Nanoseconds had no fraction.
+-- A fraction had at most 19 digits, zeros counted. Their product with what they are parts of did
+-- not exceed a `u64`, and was a multiple of their power of ten. Nanoseconds had no fraction.
 older_fraction : (part : _) (ds : List ℕ) → (OlderFraction (Some part) (Some ds)
-    ↔ ((length ds ≤ 19) × (decimal_value ds * size part ≤ greatest) × (decimal_value ds * size part % 10 ^ length ds ≡ 0)))
+    ↔ ((length ds ≤ 19) × (decimal_value ds * size part ≤ greatest)
+    × (decimal_value ds * size part % 10 ^ length ds ≡ 0)))
     × OlderFraction (Some part) None × OlderFraction None None × ¬ (OlderFraction None (Some ds))
-older_fraction part ds =
-    ((λ h. (h.0, grind (arith, nat_tests, (h.1)), grind (arith, nat_tests, (h.1))), λ h. (h.0, grind (arith, nat_tests, (h.1), (h.2)))), tt, tt, λ h. h)
+older_fraction part ds = (
+  (
+    λ h. (h.0, grind (arith, nat_tests, (h.1)), grind (arith, nat_tests, (h.1))),
+    λ h. (h.0, grind (arith, nat_tests, (h.1), (h.2))),
+  ),
+  tt,
+  tt,
+  λ h. h,
+)
 
 -- Spans were accepted if there was room for each addition.
-older_spans : (text : List ℕ) (spans : List SpelledSpan) → Reads text spans → AllByRecursion OlderFormed spans → AllHaveRoom (older_additions spans)
+older_spans : (text : List ℕ) (spans : List SpelledSpan) → Reads text spans
+    → AllByRecursion OlderFormed spans → AllHaveRoom (older_additions spans)
     → AcceptedWithZeros text (older_value spans)
 older_spans text spans reads formed room = OlderSum spans reads formed room refl
 
 -- A span added its number and then its fraction, with all digits of both.
 older_addition : (s : SpelledSpan) (unit part : _) (ds : List ℕ) → (scale_of_word s.word ≡ Some unit
-    → older_additions_of s ≡ times (decimal_value s.number) unit.whole ∷ older_fraction_additions unit.part s.fraction)
-    × (older_fraction_additions (Some part) (Some ds) ≡ of_kind part (decimal_value ds * size part / 10 ^ length ds) ∷ [])
+    → older_additions_of s
+    ≡ times (decimal_value s.number) unit.whole ∷ older_fraction_additions unit.part s.fraction)
+    × (older_fraction_additions (Some part) (Some ds)
+    ≡ of_kind part (decimal_value ds * size part / 10 ^ length ds) ∷ [])
 older_addition s unit part ds = (λ is. rw is refl, refl)
 
 -- ---- printing
 
 -- A count above 1 has the `s` of the plural if its unit has one, and no other count has it.
-plural : (n : ℕ) (unit : List ℕ) → (printed_count n (unit, true) ≡ decimal n ++ unit ++ (if nat_lt 1 n then codes "s" else []))
+plural : (n : ℕ) (unit : List ℕ)
+    → (printed_count n (unit, true) ≡ decimal n ++ unit ++ (if nat_lt 1 n then codes "s" else []))
     × (printed_count n (unit, false) ≡ decimal n ++ unit ++ [])
 plural n unit = (refl, refl)
 
@@ -137,6 +176,7 @@ any_text w d ws = (refl, refl)
 nine_units :
     zip weights suffixes
     ≡ (31_557_600_000_000_000, (codes "year", true)) ∷ (2_630_016_000_000_000, (codes "month", true))
-    ∷ (86_400_000_000_000, (codes "day", true)) ∷ (3_600_000_000_000, (codes "h", false)) ∷ (60_000_000_000, (codes "m", false)) ∷ (1_000_000_000, (codes "s", false))
+    ∷ (86_400_000_000_000, (codes "day", true)) ∷ (3_600_000_000_000, (codes "h", false))
+    ∷ (60_000_000_000, (codes "m", false)) ∷ (1_000_000_000, (codes "s", false))
     ∷ (1_000_000, (codes "ms", false)) ∷ (1_000, (0xc2 ∷ 0xb5 ∷ codes "s", false)) ∷ (1, (codes "ns", false)) ∷ []
 nine_units = refl

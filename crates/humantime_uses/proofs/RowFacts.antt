@@ -1,5 +1,5 @@
--- The grammar of spans, each row of the table of first errors, the items of a text and the views of spans: each rule written out for any
--- text, wherever its parts begin.
+-- The grammar of spans, each row of the table of first errors, the items of a text and the views of
+-- spans: each rule written out for any text, wherever its parts begin.
 use Rattle.humantime.specs.Characters.{take_while, drop_while, begins, ends, is_whitespace, is_digit, is_letter, is_point}
 use Rattle.humantime.specs.DurationErrors.{number_of, after_number, fraction_of, after_fraction, word_of, after_word, span_of, may_follow_span, Fault, InvalidCharacter, NumberExpected, UnknownUnit, NumberOverflow, Empty, Split, BeginsNumber, IsStoppedWith, OnlyWhitespace, NoNumber, TooLong, NoLetterAfterNumber, PointWithoutDigits, NoLetterAfterPoint, WordNotEnded, NoWord, UnknownWord, BreaksLimit, HasFault, fault_of, place_of, result_view, text_result_view}
 use Rattle.humantime.specs.Durations.{SpelledSpan, Spells, SpellsFraction, SpellsEach, SpellsAll, Reads, Formed, WithinLimits, scale_of_word, too_long}
@@ -21,7 +21,8 @@ offset text rest = length (encode_utf8_all text) - length (encode_utf8_all rest)
 
 -- ---- parts of a text
 
--- The first characters that pass a test and what follows them, and the first and the last character, at any length.
+-- The first characters that pass a test and what follows them, and the first and the last
+-- character, at any length.
 any_prefix : (p : ℕ → Bool) (c d : ℕ) (cs : List ℕ)
     → (take_while p (c ∷ cs) ≡ (if p c then c ∷ take_while p cs else [])) × (take_while p [] ≡ [])
     × (drop_while p (c ∷ cs) ≡ (if p c then drop_while p cs else c ∷ cs)) × (drop_while p [] ≡ [])
@@ -29,24 +30,38 @@ any_prefix : (p : ℕ → Bool) (c d : ℕ) (cs : List ℕ)
     × (ends p (c ∷ d ∷ cs) ≡ ends p (d ∷ cs)) × (ends p (c ∷ []) ≡ p c) × (ends p [] ≡ false)
 any_prefix p c d cs = (refl, refl, refl, refl, refl, refl, refl, refl, refl)
 
--- The number, the fraction and the word at the start of any rest, each as long as possible, and what follows each.
+-- The number, the fraction and the word at the start of any rest, each as long as possible, and
+-- what follows each.
 any_rest : (rest : List ℕ) → let after = drop_while numeric rest in let digits = drop 1 after in
     (number_of rest ≡ filter is_digit (take_while numeric rest)) × (after_number rest ≡ after)
     × (begins is_point after ≡ false → (fraction_of rest ≡ None) × (after_fraction rest ≡ after))
     × (begins is_point after ≡ true
-    → (fraction_of rest ≡ Some (filter is_digit (take_while numeric digits))) × (after_fraction rest ≡ drop_while numeric digits))
-    × (word_of rest ≡ take_while is_letter (after_fraction rest)) × (after_word rest ≡ drop_while is_letter (after_fraction rest))
+    → (fraction_of rest ≡ Some (filter is_digit (take_while numeric digits)))
+    × (after_fraction rest ≡ drop_while numeric digits))
+    × (word_of rest ≡ take_while is_letter (after_fraction rest))
+    × (after_word rest ≡ drop_while is_letter (after_fraction rest))
     × (span_of rest ≡ record { number = number_of rest; fraction = fraction_of rest; word = word_of rest })
-any_rest rest = (refl, refl, λ none. (rw none refl, rw none refl), λ some. (rw some refl, rw some refl), refl, refl, refl)
+any_rest rest = (
+  refl,
+  refl,
+  λ none. (rw none refl, rw none refl),
+  λ some. (rw some refl, rw some refl),
+  refl,
+  refl,
+  refl,
+)
 
-any_end : (c : ℕ) (cs : List ℕ) → (may_follow_span [] ≡ true) × (may_follow_span (c ∷ cs) ≡ numeric c)
+any_end : (c : ℕ) (cs : List ℕ)
+    → (may_follow_span [] ≡ true) × (may_follow_span (c ∷ cs) ≡ numeric c)
 any_end c cs = (refl, refl)
 
 -- ---- spans
 
 -- Nothing else is asked of the parts of a span.
-any_span : (number fraction space rest : List ℕ) (s : SpelledSpan) → begins is_digit number ≡ true → Only numeric number
-    → filter is_digit number ≡ s.number → SpellsFraction fraction s.fraction → Only is_letter s.word → s.word ≢ []
+any_span : (number fraction space rest : List ℕ) (s : SpelledSpan) → begins is_digit number ≡ true
+    → Only numeric number
+    → filter is_digit number ≡ s.number → SpellsFraction fraction s.fraction → Only is_letter s.word
+    → s.word ≢ []
     → Only is_whitespace space → Spells (number ++ (fraction ++ (s.word ++ (space ++ rest)))) s rest
 any_span number fraction space rest s starts only digits spelled letters some white = record {
   number_text = number;
@@ -64,7 +79,8 @@ any_fraction : (text ds : List ℕ) → SpellsFraction [] None
     × (Only numeric text → filter is_digit text ≡ ds → ds ≢ [] → SpellsFraction (codes "." ++ text) (Some ds))
 any_fraction text ds = (refl, λ only digits some. (text, refl, (only, digits), some))
 
-any_spans : (space body : List ℕ) (spans : List SpelledSpan) → Only is_whitespace space → SpellsEach body spans → spans ≢ []
+any_spans : (space body : List ℕ) (spans : List SpelledSpan) → Only is_whitespace space
+    → SpellsEach body spans → spans ≢ []
     → Reads (space ++ body) spans
 any_spans space body spans white each some =
     (record { whitespace = space; body = body; whole = refl; only_whitespace = white; each = each }, some)
@@ -80,17 +96,23 @@ module _ (text front rest : List ℕ) (spans : List SpelledSpan) where
   Row e = IsStoppedWith text front spans rest e
 
   any_row : (spans ≡ [] → rest ≡ [] → Row Empty)
-      × (rest ≢ [] → begins is_digit rest ≡ false → (spans ≡ []) ⊎ (ends is_whitespace front ≡ true) → Row (NumberExpected (offset text rest)))
+      × (rest ≢ [] → begins is_digit rest ≡ false → (spans ≡ []) ⊎ (ends is_whitespace front ≡ true)
+      → Row (NumberExpected (offset text rest)))
       × (begins is_digit rest ≡ true → too_long (span_of rest) ≡ true → Row NumberOverflow)
-  any_row =
-      (λ none end. OnlyWhitespace none end refl, λ some other at. NoNumber some other at refl, λ digit long. TooLong digit long refl)
+  any_row = (
+    λ none end. OnlyWhitespace none end refl,
+    λ some other at. NoNumber some other at refl,
+    λ digit long. TooLong digit long refl,
+  )
 
   number : begins is_digit rest ≡ true → too_long (span_of rest) ≡ false → BeginsNumber rest
   number digit short = record { digit = digit; short = short }
 
-  after_number_or_point : BeginsNumber rest → let here = InvalidCharacter (offset text (after_word rest)) in
+  after_number_or_point : BeginsNumber rest → let here =
+      InvalidCharacter (offset text (after_word rest)) in
       (fraction_of rest ≡ None → word_of rest ≡ [] → after_word rest ≢ [] → Row here)
-      × (fraction_of rest ≡ Some [] → (word_of rest ≢ []) ⊎ (after_word rest ≡ []) → Row (InvalidCharacter (offset text (after_number rest))))
+      × (fraction_of rest ≡ Some [] → (word_of rest ≢ []) ⊎ (after_word rest ≡ [])
+      → Row (InvalidCharacter (offset text (after_number rest))))
       × (IsSome (fraction_of rest) → word_of rest ≡ [] → after_word rest ≢ [] → Row here)
   after_number_or_point begun = (
     λ none empty other. NoLetterAfterNumber begun none empty other refl,
@@ -99,32 +121,51 @@ module _ (text front rest : List ℕ) (spans : List SpelledSpan) where
   )
 
   after_word_or_end : BeginsNumber rest → fraction_of rest ≢ Some []
-      → let end = length (encode_utf8_all text) in let value = digits_value 10 (number_of rest) in let after = offset text (after_word rest) in
+      → let end = length (encode_utf8_all text) in let value = digits_value 10 (number_of rest) in
+      let after = offset text (after_word rest) in
       (word_of rest ≢ [] → may_follow_span (after_word rest) ≡ false → Row (InvalidCharacter after))
       × (word_of rest ≡ [] → after_word rest ≡ [] → Row (UnknownUnit end end [] value))
       × (word_of rest ≢ [] → scale_of_word (word_of rest) ≡ None → may_follow_span (after_word rest) ≡ true
       → Row (UnknownUnit (offset text (after_fraction rest)) after (encode_utf8_all (word_of rest)) value))
-      × (IsSome (scale_of_word (word_of rest)) → may_follow_span (after_word rest) ≡ true → ¬ (WithinLimits (spans ++ span_of rest ∷ []))
+      × (IsSome (scale_of_word (word_of rest)) → may_follow_span (after_word rest) ≡ true
+      → ¬ (WithinLimits (spans ++ span_of rest ∷ []))
       → BreaksLimit spans rest NumberOverflow)
   after_word_or_end begun digits = (
     λ some other. WordNotEnded begun digits some other refl,
     λ none end. NoWord begun digits none end refl,
     λ some unknown ended. UnknownWord begun digits some unknown ended refl,
-    λ unit ended beyond. record { span = record { number = begun; digits = digits; unit = unit; ended = ended }; beyond = beyond; fault = refl },
+    λ unit ended beyond.
+        record {
+          span = record { number = begun; digits = digits; unit = unit; ended = ended };
+          beyond = beyond;
+          fault = refl;
+        },
   )
 
   -- Nothing else is asked of the first error, nor of the items.
-  split : text ≡ front ++ rest → SpellsAll front spans → begins is_whitespace rest ≡ false → Split text front spans rest
+  split : text ≡ front ++ rest → SpellsAll front spans → begins is_whitespace rest ≡ false
+      → Split text front spans rest
   split whole spelled start = record { whole = whole; spelled = spelled; no_whitespace = start }
 
-  any_error : (e : Fault) → text ≢ codes "0" → Split text front spans rest → WithinLimits spans → Row e ⊎ BreaksLimit spans rest e
+  any_error : (e : Fault) → text ≢ codes "0" → Split text front spans rest → WithinLimits spans
+      → Row e ⊎ BreaksLimit spans rest e
       → HasFault text e
   any_error e other split within row =
-      record { not_zero = other; front = front; rest = rest; spans = spans; split = split; within = within; row = row }
+      record {
+        not_zero = other;
+        front = front;
+        rest = rest;
+        spans = spans;
+        split = split;
+        within = within;
+        row = row;
+      }
 
-  any_stop : (stop : Option Fault) → Split text front spans rest → AllByRecursion Formed spans → EndsOrStops text front spans rest stop
+  any_stop : (stop : Option Fault) → Split text front spans rest → AllByRecursion Formed spans
+      → EndsOrStops text front spans rest stop
       → Items text spans stop
-  any_stop stop split formed ends = record { front = front; rest = rest; split = split; formed = formed; ends = ends }
+  any_stop stop split formed ends =
+      record { front = front; rest = rest; split = split; formed = formed; ends = ends }
 
   end_or_stop : (e : Fault) → (rest ≡ [] → spans ≢ [] → EndsOrStops text front spans rest None)
       × (Row e → EndsOrStops text front spans rest (Some e))
@@ -132,38 +173,65 @@ module _ (text front rest : List ℕ) (spans : List SpelledSpan) where
 
 -- ---- errors and the views of spans
 
--- An error as data has all that the error holds, and a result as data its value or its error. All but an overflow point to an offset.
+-- An error as data has all that the error holds, and a result as data its value or its error. All
+-- but an overflow point to an offset.
 any_fault : (at start end value : ℕ) (unit : Bor (List ℕ)) (e : DurationError)
-    → let faults = InvalidCharacter at ∷ NumberExpected at ∷ UnknownUnit start end unit.now value ∷ NumberOverflow ∷ Empty ∷ [] in
-    (map fault_of (errors.InvalidCharacter at ∷ errors.NumberExpected at ∷ errors.UnknownUnit start end unit value ∷ errors.NumberOverflow ∷ errors.Empty ∷ []) ≡ faults)
+    → let faults = InvalidCharacter at ∷ NumberExpected at ∷ UnknownUnit start end unit.now value
+    ∷ NumberOverflow ∷ Empty ∷ [] in
+    (map fault_of (errors.InvalidCharacter at ∷ errors.NumberExpected at ∷ errors.UnknownUnit start
+    end unit value ∷ errors.NumberOverflow ∷ errors.Empty ∷ []) ≡ faults)
     × (map place_of faults ≡ Some at ∷ Some at ∷ Some start ∷ None ∷ Some 0 ∷ [])
     × (result_view (Ok value) ≡ Ok value) × (result_view (Err e) ≡ Err (fault_of e))
     × (text_result_view (Ok unit) ≡ Ok unit.now) × (text_result_view (Err e) ≡ Err (fault_of e))
 any_fault at start end value unit e = (refl, refl, refl, refl, refl, refl)
 
 -- A slice goes from the first digit to the last.
-any_slice : (before slice after : List ℕ) → Only is_whitespace before → Only is_whitespace after → begins is_digit slice ≡ true
+any_slice : (before slice after : List ℕ) → Only is_whitespace before → Only is_whitespace after
+    → begins is_digit slice ≡ true
     → ends is_digit slice ≡ true → IsDigitSlice (before ++ (slice ++ after)) slice
 any_slice before slice after white more first last =
-    record { before = before; after = after; whole = refl; only_before = white; only_after = more; first_digit = first; last_digit = last }
+    record {
+      before = before;
+      after = after;
+      whole = refl;
+      only_before = white;
+      only_after = more;
+      first_digit = first;
+      last_digit = last;
+    }
 
-any_view : (text here next : List ℕ) (s : SpelledSpan) (x : SpanView) (is : Spells here s next) → IsDigitSlice is.number_text x.number
+any_view : (text here next : List ℕ) (s : SpelledSpan) (x : SpanView) (is : Spells here s next)
+    → IsDigitSlice is.number_text x.number
     → IsFractionView is.fraction_text x.fraction → x.unit ≡ s.word → x.start ≡ offset text here
-    → x.end ≡ offset text (is.whitespace ++ next) → x.value ≡ digits_value 10 s.number → IsSpanView text here s x next
+    → x.end ≡ offset text (is.whitespace ++ next) → x.value ≡ digits_value 10 s.number
+    → IsSpanView text here s x next
 any_view text here next s x is number fraction unit start end value =
-    record { spelled = is; number = number; fraction = fraction; unit = unit; start = start; end = end; value = value }
+    record {
+      spelled = is;
+      number = number;
+      fraction = fraction;
+      unit = unit;
+      start = start;
+      end = end;
+      value = value;
+    }
 
 any_fraction_view : (text slice : List ℕ) → IsFractionView [] None
     × (IsDigitSlice text slice → IsFractionView (codes "." ++ text) (Some slice))
 any_fraction_view text slice = (refl, λ is. (text, refl, is))
 
-any_views : (text here : List ℕ) (s : SpelledSpan) (ss : List SpelledSpan) (x : SpanView) (xs : List SpanView) (end : List ℕ)
+any_views : (text here : List ℕ) (s : SpelledSpan) (ss : List SpelledSpan) (x : SpanView)
+    (xs : List SpanView) (end : List ℕ)
     → AreSpanViews text here [] [] here
-    × ((next : List ℕ) → IsSpanView text here s x next → AreSpanViews text next ss xs end → AreSpanViews text here (s ∷ ss) (x ∷ xs) end)
+    × ((next : List ℕ) → IsSpanView text here s x next → AreSpanViews text next ss xs end
+    → AreSpanViews text here (s ∷ ss) (x ∷ xs) end)
 any_views text here s ss x xs end = (refl, λ next first others. (next, first, others))
 
--- The items are the views of the spans, and then the error, if there is one. So none follows an error.
-any_items : (text : List ℕ) (spans : List SpelledSpan) (stop : Option Fault) (views : List SpanView) (is : Items text spans stop)
+-- The items are the views of the spans, and then the error, if there is one. So none follows an
+-- error.
+any_items : (text : List ℕ) (spans : List SpelledSpan) (stop : Option Fault) (views : List SpanView)
+    (is : Items text spans stop)
     → AreSpanViews text (drop_while is_whitespace text) spans views is.rest
     → AreItems text (map Ok views ++ option_to_list (option_map Err stop))
-any_items text spans stop views is each = record { spans = spans; stop = stop; slices = views; items = is; are = refl; each = each }
+any_items text spans stop views is each =
+    record { spans = spans; stop = stop; slices = views; items = is; are = refl; each = each }

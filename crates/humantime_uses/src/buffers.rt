@@ -12,7 +12,8 @@ pub fn print_over(stamp: &Rfc3339Timestamp, buf: &mut [u8; 30])
     let _text = stamp.text(buf);
 }
 
-/// Writes the canonical string over the one in the buffer, which is unchanged if `s` is not a valid duration.
+/// Writes the canonical string over the one in the buffer, which is unchanged if `s` is not a valid
+/// duration.
 pub fn canonical_over(s: &str, buf: &mut [u8; 64])
     ensures { (e : Fault) → HasFault (chars s.now) e → buf.new ≡ buf.old }
 {

@@ -7,7 +7,8 @@ ghost use Rattle.humantime.specs.Prelude.{ExactlyOne, IsDate, day_of};
 use humantime::laws::one_date;
 use humantime::{Date, Turns, date_of_day, day_number};
 
-/// Returns the date `days` days after a date, or `None` after 9999-12-31. Twelve turns are counted for a date, and none for `None`.
+/// Returns the date `days` days after a date, or `None` after 9999-12-31. Twelve turns are counted
+/// for a date, and none for `None`.
 pub fn days_after(date: Date, days: u32, turns: &mut Turns) -> Option<Date>
     ensures within { IsSome result ↔ (IsDate date × (day_of date + days ≤ 2_932_896)) }
     ensures later { IfSome result (λ d. IsDate d × (day_of d ≡ day_of date + days)) }

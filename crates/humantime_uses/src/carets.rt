@@ -32,7 +32,8 @@ pub fn lines_at<E: Display + Drop>(
     format!(in alloc; "{}", Report::new(error, text, range))
 }
 
-/// Returns the report of an error, if there is one: what is wrong, the line, and below it carets under the bytes of the error.
+/// Returns the report of an error, if there is one: what is wrong, the line, and below it carets
+/// under the bytes of the error.
 #[tactic(auto, using(crate::proofs::ShownLines::shows_range))]
 fn lines_of<T: Drop, E: Display + Drop>(
     alloc: Global,
@@ -50,23 +51,33 @@ fn lines_of<T: Drop, E: Display + Drop>(
     }
 }
 
-/// Returns what is wrong with a string that is no duration, the line, and below it carets under the wrong bytes.
+/// Returns what is wrong with a string that is no duration, the line, and below it carets under the
+/// wrong bytes.
 pub fn duration_lines(alloc: Global, text: &str) -> Lines
-    ensures { (e : Fault) → duration_answer (chars text.now) ≡ Err e → IfOk result (λ lines. (start : ℕ) × (end : ℕ) × IsFaultRange text.now e start end × ShowsRange text.now (fault_message e) start end (string_bytes lines)) }
+    ensures { (e : Fault) → duration_answer (chars text.now) ≡ Err e
+        → IfOk result
+        (λ lines. (start : ℕ) × (end : ℕ) × IsFaultRange text.now e start end
+        × ShowsRange text.now (fault_message e) start end (string_bytes lines)) }
 {
     lines_of(alloc, text, parse_duration(text))
 }
 
-/// Returns what is wrong with a string that is no timestamp in the weak format, the line, and below it carets under the wrong bytes.
+/// Returns what is wrong with a string that is no timestamp in the weak format, the line, and below
+/// it carets under the wrong bytes.
 pub fn weak_lines(alloc: Global, text: &str) -> Lines
-    ensures { (e : TimestampError) → weak_answer text.now ≡ Err e → IfOk result (λ lines. let range = error_range false text.now e in ShowsRange text.now (timestamp_message e) range.0 range.1 (string_bytes lines)) }
+    ensures { (e : TimestampError) → weak_answer text.now ≡ Err e
+        → IfOk result (λ lines. let range = error_range false text.now e in
+        ShowsRange text.now (timestamp_message e) range.0 range.1 (string_bytes lines)) }
 {
     lines_of(alloc, text, parse_rfc3339_weak(text))
 }
 
-/// Returns what is wrong with a string that is no timestamp in the strict format, the line, and below it carets under the wrong bytes.
+/// Returns what is wrong with a string that is no timestamp in the strict format, the line, and
+/// below it carets under the wrong bytes.
 pub fn strict_lines(alloc: Global, text: &str) -> Lines
-    ensures { (e : TimestampError) → strict_answer text.now ≡ Err e → IfOk result (λ lines. let range = error_range true text.now e in ShowsRange text.now (timestamp_message e) range.0 range.1 (string_bytes lines)) }
+    ensures { (e : TimestampError) → strict_answer text.now ≡ Err e
+        → IfOk result (λ lines. let range = error_range true text.now e in
+        ShowsRange text.now (timestamp_message e) range.0 range.1 (string_bytes lines)) }
 {
     lines_of(alloc, text, parse_rfc3339(text))
 }

@@ -11,7 +11,8 @@ use std::fmt::{self, Display, Write};
 
 /// Writes a line with the time that something took and its limit.
 pub fn write_limit<W: Write>(took: &FormattedDuration, limit: Duration, out: &mut W) -> fmt::Result
-    ensures { OnOk result (WritesInCalls W.write_str_gives out.old (duration_text took.now ++ (codes " of " ++ duration_text limit)) out.new) }
+    ensures { OnOk result (WritesInCalls W.write_str_gives out.old
+        (duration_text took.now ++ (codes " of " ++ duration_text limit)) out.new) }
 {
     write!(out, "{took} of {limit}")
 }
@@ -21,8 +22,10 @@ pub fn write_limit_or_error<W: Write>(
     limit: &Result<Duration, DurationError<'_>>,
     f: &mut fmt::Formatter<W>,
 ) -> fmt::Result
-    ensures limit { IfOk limit.now (λ d. WritesStyledOnOk W.write_str_gives f.old result (duration_text d) f.new) }
-    ensures error { IfErr limit.now (λ e. WritesStyledOnOk W.write_str_gives f.old result (fault_message (fault_of e)) f.new) }
+    ensures limit { IfOk limit.now
+        (λ d. WritesStyledOnOk W.write_str_gives f.old result (duration_text d) f.new) }
+    ensures error { IfErr limit.now
+        (λ e. WritesStyledOnOk W.write_str_gives f.old result (fault_message (fault_of e)) f.new) }
 {
     match limit {
         Ok(limit) => limit.fmt(f),
@@ -35,8 +38,10 @@ pub fn write_took_or_error<W: Write>(
     took: &Result<FormattedDuration, TimestampError>,
     f: &mut fmt::Formatter<W>,
 ) -> fmt::Result
-    ensures took { IfOk took.now (λ d. WritesStyledOnOk W.write_str_gives f.old result (duration_text d) f.new) }
-    ensures error { IfErr took.now (λ e. WritesStyledOnOk W.write_str_gives f.old result (timestamp_message e) f.new) }
+    ensures took { IfOk took.now
+        (λ d. WritesStyledOnOk W.write_str_gives f.old result (duration_text d) f.new) }
+    ensures error { IfErr took.now
+        (λ e. WritesStyledOnOk W.write_str_gives f.old result (timestamp_message e) f.new) }
 {
     match took {
         Ok(took) => took.fmt(f),
@@ -58,7 +63,8 @@ pub fn write_timestamp<W: Write>(at: Timestamp, f: &mut fmt::Formatter<W>) -> fm
 /// Writes what a printer of a timestamp prints. It writes nothing for a time outside 1970 to 9999.
 pub fn write_stamp<W: Write>(stamp: &Rfc3339Timestamp, f: &mut fmt::Formatter<W>) -> fmt::Result
     ensures writes { DisplaysOnOk W.write_str_gives f.old result (printed_text stamp.now) f.new }
-    ensures styled { DisplaysStyledOnOk W.write_str_gives f.old result (printed_text stamp.now) f.new }
+    ensures styled { DisplaysStyledOnOk W.write_str_gives f.old result (printed_text stamp.now)
+        f.new }
     ensures within { IsOk result → IsPrintable stamp.now.moment }
     ensures refused { ¬ (IsPrintable stamp.now.moment) → result ≡ Err fmt_error }
     ensures untouched { ¬ (IsPrintable stamp.now.moment) → f.new ≡ f.old }

@@ -7,7 +7,8 @@ use humantime::{Duration, DurationError, StdDuration, canonical, format_duration
 
 /// Parses a time limit, and rounds it up to whole seconds.
 pub fn whole_limit(text: &str) -> Result<u64, DurationError<'_>>
-    ensures { IfOk result (λ secs. (v : ℕ) × Accepted (chars text.now) v × (v ≤ secs * nanos_per_second)) }
+    ensures { IfOk result
+        (λ secs. (v : ℕ) × Accepted (chars text.now) v × (v ≤ secs * nanos_per_second)) }
 {
     match seconds_up(parse_duration(text)?) {
         Some(secs) => Ok(secs),
@@ -26,7 +27,8 @@ fn seconds_up(duration: StdDuration) -> Option<u64>
     }
 }
 
-/// Returns `true` if an error points into its string: a character begins at its offset, or its unit is the slice between its offsets.
+/// Returns `true` if an error points into its string: a character begins at its offset, or its unit
+/// is the slice between its offsets.
 fn is_in(error: DurationError<'_>, text: &str) -> bool
     requires { PointsInto text.now error }
     ensures { result ≡ true }
@@ -77,7 +79,8 @@ pub fn is_same_error(a: &DurationError<'_>, b: &DurationError<'_>) -> bool
 /// Returns the string of a time of seconds and microseconds, or `None` if it is too long.
 pub fn shown_time<'b>(secs: u64, micros: u64, buf: &'b mut [u8; 64]) -> Option<&'b str>
     ensures within { IsSome result ↔ (secs * nanos_per_second + micros * 1000 < duration_end) }
-    ensures text { IfSome result (λ text. IsCanonicalText (secs * nanos_per_second + micros * 1000) text.now) }
+    ensures text { IfSome result
+        (λ text. IsCanonicalText (secs * nanos_per_second + micros * 1000) text.now) }
 {
     let time = StdDuration::from_secs(secs).checked_add(StdDuration::from_micros(micros))?;
     Some(format_duration(time).text(buf))

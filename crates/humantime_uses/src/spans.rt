@@ -8,9 +8,11 @@ ghost use Rattle.humantime_uses.specs.SpanItems.{longest_of};
 use humantime::laws::spans_tile;
 use humantime::{DurationError, Span, SpanIter, StdDuration, parse_duration, spans};
 
-/// Returns the longest span of a string, each span parsed on its own, or zero if no span is a duration.
+/// Returns the longest span of a string, each span parsed on its own, or zero if no span is a
+/// duration.
 pub fn longest_span(text: &str) -> StdDuration
-    ensures { (items : List (Result SpanView Fault)) × AreItems (chars text.now) items × (result ≡ longest_of text.now items) }
+    ensures { (items : List (Result SpanView Fault)) × AreItems (chars text.now) items
+        × (result ≡ longest_of text.now items) }
 {
     let mut longest = StdDuration::ZERO;
     for item in spans(text) {
@@ -26,8 +28,24 @@ pub type Parts<'a> = (&'a str, Option<&'a str>, &'a str, usize, usize, u64);
 
 /// Returns the parts of the next item, or its error, which points into the string of the items.
 pub fn next_parts<'a>(items: &mut SpanIter<'a>) -> Option<Result<Parts<'a>, DurationError<'a>>>
-    ensures parts { IfSome result (λ item. IfOk item (λ x. items_left items.old ≡ Ok (record { number = chars x.0.now; fraction = option_map (λ t. chars t.now) x.1; unit = chars x.2.now; start = x.3; end = x.4; value = x.5 }) ∷ items_left items.new)) }
-    ensures error { IfSome result (λ item. IfErr item (λ e. PointsInto (text_of items.old) e × (items_left items.old ≡ Err (fault_of e) ∷ items_left items.new))) }
+    ensures parts { IfSome result
+        (λ item.
+        IfOk item
+        (λ x.
+        items_left items.old
+        ≡ Ok (record {
+          number = chars x.0.now;
+          fraction = option_map (λ t. chars t.now) x.1;
+          unit = chars x.2.now;
+          start = x.3;
+          end = x.4;
+          value = x.5;
+        }) ∷ items_left items.new)) }
+    ensures error { IfSome result
+        (λ item.
+        IfErr item
+        (λ e. PointsInto (text_of items.old) e
+        × (items_left items.old ≡ Err (fault_of e) ∷ items_left items.new))) }
     ensures text { text_of items.new ≡ text_of items.old }
 {
     let span: Span<'a> = match items.next()? {
@@ -46,11 +64,14 @@ pub fn next_parts<'a>(items: &mut SpanIter<'a>) -> Option<Result<Parts<'a>, Dura
 
 /// Returns two iterators over the items of a string, whose slices follow each other in the string.
 ///
-/// Up to where the spans stop, each character lies in exactly one slice (a number, a fraction or a unit), or in none and is whitespace or a
-/// point. If no item is an error, this holds for each character of the string.
+/// Up to where the spans stop, each character lies in exactly one slice (a number, a fraction or a
+/// unit), or in none and is whitespace or a point. If no item is an error, this holds for each
+/// character of the string.
 pub fn tiling_spans(text: &str) -> (SpanIter<'_>, SpanIter<'_>)
-    ensures front { (are : AreItems (chars text.now) (items_left result.0)) × IsTiled are.items.front (flat_map slices_of (items_left result.0)) }
-    ensures whole { list_all is_ok (items_left result.0) ≡ true → IsTiled (chars text.now) (flat_map slices_of (items_left result.0)) }
+    ensures front { (are : AreItems (chars text.now) (items_left result.0))
+        × IsTiled are.items.front (flat_map slices_of (items_left result.0)) }
+    ensures whole { list_all is_ok (items_left result.0) ≡ true
+        → IsTiled (chars text.now) (flat_map slices_of (items_left result.0)) }
     ensures same { items_left result.0 ≡ items_left result.1 }
 {
     spans_tile(text);

@@ -24,7 +24,8 @@ pub fn is_rest(duration: StdDuration, other: StdDuration, rest: StdDuration) -> 
     duration.checked_sub(other) == Some(rest)
 }
 
-/// Returns `true` if a time minus a duration is `earlier`: if `earlier` plus the duration is the time.
+/// Returns `true` if a time minus a duration is `earlier`: if `earlier` plus the duration is the
+/// time.
 #[tactic(auto, using(std::proofs::lemmas::Int::ints))]
 pub fn is_earlier(time: SystemTime, duration: StdDuration, earlier: SystemTime) -> bool
     ensures { IsTrue result ↔ (time ≡ earlier +ℤ pos duration) }
@@ -50,14 +51,16 @@ pub fn time_through_std(time: SystemTime) -> Option<SystemTime>
     SystemTime::from_std(time.to_std()?)
 }
 
-/// Returns what is left of a limit when it begins, which is the limit, or `None` if the clock of std ends before it.
+/// Returns what is left of a limit when it begins, which is the limit, or `None` if the clock of
+/// std ends before it.
 pub fn left_at_start(start: Instant, limit: StdDuration) -> Option<StdDuration>
     ensures { SomeIff result (FitsClock (instant_nanos start + limit)) limit }
 {
     Some(time_left(start, deadline(start, limit)?))
 }
 
-/// Returns how long to wait for the next run of a job, or `None` if no `SystemTime` is a time at which a run is due.
+/// Returns how long to wait for the next run of a job, or `None` if no `SystemTime` is a time at
+/// which a run is due.
 pub fn wait_for(last: SystemTime, every: StdDuration, now: SystemTime) -> Option<StdDuration>
     ensures next { IfSome result (λ wait. IsNextRun last every now (now +ℤ pos wait)) }
     ensures none { IsNone result → (t : ℤ) → IsDue last every now t → moment_end ≤ℤ t }
@@ -90,7 +93,8 @@ pub fn vanished(delay: StdDuration, most: StdDuration) -> StdDuration
     next_delay(delay, 0, most)
 }
 
-/// Returns the delay before one more try, twice as long as the one before it, but not longer than `most`.
+/// Returns the delay before one more try, twice as long as the one before it, but not longer than
+/// `most`.
 pub fn doubled(delay: StdDuration, most: StdDuration) -> StdDuration
     ensures most { result ≤ most }
     ensures longer { delay ≤ most → delay ≤ result }
@@ -99,7 +103,8 @@ pub fn doubled(delay: StdDuration, most: StdDuration) -> StdDuration
     next_delay(delay, 2, most)
 }
 
-/// Returns a duration without what is below a step, and that remainder, or `None` if the step is zero.
+/// Returns a duration without what is below a step, and that remainder, or `None` if the step is
+/// zero.
 pub fn split_at_step(duration: StdDuration, step: StdDuration) -> Option<(StdDuration, StdDuration)>
     ensures none { IsNone result ↔ (step ≡ 0) }
     ensures sum { IfSome result (λ parts. duration ≡ parts.0 + parts.1) }
@@ -132,10 +137,11 @@ pub fn share(part: StdDuration, whole: StdDuration) -> Option<u128>
     (part.as_nanos() * 100).checked_div(whole.as_nanos())
 }
 
-/// Returns the part of a line that is wrong by the error of the weak parser, or `None` if there is no
-/// error.
+/// Returns the part of a line that is wrong by the error of the weak parser, or `None` if there is
+/// no error.
 pub fn wrong_part(text: &str) -> Option<&str>
-    ensures { option_map (λ part. part.now) result ≡ option_map (part_of_line text.now) (weak_error text.now) }
+    ensures { option_map (λ part. part.now) result
+        ≡ option_map (part_of_line text.now) (weak_error text.now) }
 {
     let error = parse_rfc3339_weak(text).err()?;
     Some(error.marked_line(text).part)
@@ -151,7 +157,8 @@ pub fn offset_of_error(error: &DurationError<'_>) -> Option<usize>
 /// Returns the range of the error of a duration, or `None` if there is no error.
 pub fn wrong_range(text: &str) -> Option<(usize, usize)>
     ensures none { IsNone result ↔ IsOk (duration_answer (chars text.now)) }
-    ensures place { (e : Fault) → duration_answer (chars text.now) ≡ Err e → IfSome result (λ range. IsFaultRange text.now e range.0 range.1) }
+    ensures place { (e : Fault) → duration_answer (chars text.now) ≡ Err e
+        → IfSome result (λ range. IsFaultRange text.now e range.0 range.1) }
     ensures range { IfSome result (λ range. IsRangeIn text.now range.0 range.1) }
 {
     let error = located::parse_duration(text).err()?;

@@ -17,15 +17,18 @@ pub fn measured<D: StdDurationExt>(duration: time::Duration) -> D
     D::from_std(duration)
 }
 
-/// Returns how much of a limit is left after a number of equal steps, or `None` if they are longer than any duration.
+/// Returns how much of a limit is left after a number of equal steps, or `None` if they are longer
+/// than any duration.
 pub fn left_after<D: StdDurationExt + Copy>(limit: D, step: D, steps: u64) -> Option<D>
     ensures none { IsNone result → duration_end ≤ D.total_nanos step * steps }
-    ensures left { IfSome result (λ left. D.total_nanos left ≡ D.total_nanos limit - D.total_nanos step * steps) }
+    ensures left { IfSome result
+        (λ left. D.total_nanos left ≡ D.total_nanos limit - D.total_nanos step * steps) }
 {
     Some(limit.saturating_sub(step.checked_mul(steps)?))
 }
 
-/// Returns the mean of a number of durations, in whole milliseconds and as one of std, or `None` if there is none.
+/// Returns the mean of a number of durations, in whole milliseconds and as one of std, or `None` if
+/// there is none.
 pub fn mean_of<D: StdDurationExt + Copy>(total: D, count: u64) -> Option<(u128, time::Duration)>
     ensures none { IsNone result ↔ (count ≡ 0) }
     ensures millis { IfSome result (λ mean. mean.0 ≡ D.total_nanos total / count / 1_000_000) }
@@ -35,9 +38,11 @@ pub fn mean_of<D: StdDurationExt + Copy>(total: D, count: u64) -> Option<(u128, 
     Some((mean.as_millis(), mean.to_std()))
 }
 
-/// Returns the steps of a duration, without what is below a step, or `None` if it is shorter than one, or if the step is zero.
+/// Returns the steps of a duration, without what is below a step, or `None` if it is shorter than
+/// one, or if the step is zero.
 pub fn whole_steps<D: StdDurationExt + Copy>(duration: D, step: D) -> Option<u128>
-    ensures { IfSome result (λ nanos. (nanos ≡ D.total_nanos duration / D.total_nanos step * D.total_nanos step) × (nanos ≢ 0)) }
+    ensures { IfSome result (λ nanos.
+        (nanos ≡ D.total_nanos duration / D.total_nanos step * D.total_nanos step) × (nanos ≢ 0)) }
 {
     let whole = duration.checked_trunc_to(step)?;
     if whole.is_zero() {
@@ -79,7 +84,8 @@ pub fn before<T: SystemTimeExt + Copy>(
     duration: StdDuration,
 ) -> Option<time::SystemTime>
     ensures some { IsSome result → FitsClock (system_time_nanos time) }
-    ensures time { IfSome result (λ earlier. system_time_nanos time ≡ system_time_nanos earlier + duration) }
+    ensures time { IfSome result
+        (λ earlier. system_time_nanos time ≡ system_time_nanos earlier + duration) }
 {
     T::from_std(time)?.checked_sub(duration)?.to_std()
 }

@@ -8,22 +8,26 @@ use humantime::{
     Timestamp, parse_duration, parse_rfc3339_weak,
 };
 
-/// Returns the limit and the duration of any seconds and nanoseconds, which are carried, or `None` if they are too long.
+/// Returns the limit and the duration of any seconds and nanoseconds, which are carried, or `None`
+/// if they are too long.
 pub fn carried(secs: u64, nanos: u32) -> Option<(Duration, StdDuration)>
-    ensures { SomeIff result (secs + nanos / nanos_per_second < 2 ^ 64) (secs * nanos_per_second + nanos, secs * nanos_per_second + nanos) }
+    ensures { SomeIff result (secs + nanos / nanos_per_second < 2 ^ 64)
+        (secs * nanos_per_second + nanos, secs * nanos_per_second + nanos) }
 {
     let limit = StdDuration::checked_new(secs, nanos)?;
     Some((Duration::from(limit), StdDuration::new(secs, nanos)))
 }
 
-/// Returns a timestamp of seconds and nanoseconds after 1970-01-01, or `None` if the nanoseconds are a second or more.
+/// Returns a timestamp of seconds and nanoseconds after 1970-01-01, or `None` if the nanoseconds
+/// are a second or more.
 pub fn timestamp_of_parts(secs: i64, nanos: u32) -> Option<Timestamp>
     ensures { SomeIff result (nanos < nanos_per_second) (moment secs nanos) }
 {
     Some(Timestamp::from(SystemTime::from_parts(secs, nanos)?))
 }
 
-/// Returns the seconds and the nanoseconds of a duration, which meet the precondition of `StdDuration::new`, and what it returns for them.
+/// Returns the seconds and the nanoseconds of a duration, which meet the precondition of
+/// `StdDuration::new`, and what it returns for them.
 pub fn parts_and_duration(duration: StdDuration) -> (u64, u32, StdDuration)
     ensures seconds { result.0 ≡ duration / nanos_per_second }
     ensures nanoseconds { result.1 ≡ duration % nanos_per_second }
@@ -33,7 +37,8 @@ pub fn parts_and_duration(duration: StdDuration) -> (u64, u32, StdDuration)
     (secs, nanos, StdDuration::new(secs, nanos))
 }
 
-/// Returns the seconds and the nanoseconds of a time, and the time of these parts, which is the same.
+/// Returns the seconds and the nanoseconds of a time, and the time of these parts, which is the
+/// same.
 pub fn parts_and_moment(moment: SystemTime) -> (i64, u32, Option<SystemTime>)
     ensures second { result.0 ≡ second_of moment }
     ensures nano { result.1 ≡ nano_of moment }

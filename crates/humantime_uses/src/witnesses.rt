@@ -1,7 +1,7 @@
 //! Constants, defaults, equality, order, clones, copies and hashes of the library's values.
 //!
-//! The contract of each function gives its result for every value. If a derive were replaced by a body with another meaning, the function
-//! here would not prove.
+//! The contract of each function gives its result for every value. If a derive were replaced by a
+//! body with another meaning, the function here would not prove.
 
 ghost use Rattle.std.specs.Prelude.{◌≡◌, ◌-◌, ◌<◌, ◌<ℤ◌, ◌↔◌, pos, IsTrue, IsOkAnd, Some};
 ghost use Rattle.std.specs.Ordering.{nat_cmp, int_cmp};
@@ -15,7 +15,8 @@ use std::alloc::AllocError;
 use std::cmp::Ordering;
 use std::hash::{Hash, Hasher};
 
-/// Returns the constants and the defaults: `ZERO`, `MAX`, `UNIX_EPOCH`, and the defaults of both types of durations.
+/// Returns the constants and the defaults: `ZERO`, `MAX`, `UNIX_EPOCH`, and the defaults of both
+/// types of durations.
 pub fn constants() -> (StdDuration, StdDuration, SystemTime, StdDuration, Duration)
     ensures { result ≡ (0, duration_end - 1, pos 0, 0, 0) }
 {
@@ -36,10 +37,18 @@ pub type Compared = (bool, bool, Ordering, Option<Ordering>);
 
 /// Compares the values of each type.
 pub fn compared(a: &Times, b: &Times) -> (Compared, Compared, Compared, Compared)
-    ensures std_duration { (IsTrue result.0.0 ↔ (a.now.0 ≡ b.now.0)) × (IsTrue result.0.1 ↔ (a.now.0 < b.now.0)) × (result.0.2 ≡ nat_cmp a.now.0 b.now.0) × (result.0.3 ≡ Some (nat_cmp a.now.0 b.now.0)) }
-    ensures system_time { (IsTrue result.1.0 ↔ (a.now.1 ≡ b.now.1)) × (IsTrue result.1.1 ↔ (a.now.1 <ℤ b.now.1)) × (result.1.2 ≡ int_cmp a.now.1 b.now.1) × (result.1.3 ≡ Some (int_cmp a.now.1 b.now.1)) }
-    ensures duration { (IsTrue result.2.0 ↔ (a.now.2 ≡ b.now.2)) × (IsTrue result.2.1 ↔ (a.now.2 < b.now.2)) × (result.2.2 ≡ nat_cmp a.now.2 b.now.2) × (result.2.3 ≡ Some (nat_cmp a.now.2 b.now.2)) }
-    ensures timestamp { (IsTrue result.3.0 ↔ (a.now.3 ≡ b.now.3)) × (IsTrue result.3.1 ↔ (a.now.3 <ℤ b.now.3)) × (result.3.2 ≡ int_cmp a.now.3 b.now.3) × (result.3.3 ≡ Some (int_cmp a.now.3 b.now.3)) }
+    ensures std_duration { (IsTrue result.0.0 ↔ (a.now.0 ≡ b.now.0))
+        × (IsTrue result.0.1 ↔ (a.now.0 < b.now.0)) × (result.0.2 ≡ nat_cmp a.now.0 b.now.0)
+        × (result.0.3 ≡ Some (nat_cmp a.now.0 b.now.0)) }
+    ensures system_time { (IsTrue result.1.0 ↔ (a.now.1 ≡ b.now.1))
+        × (IsTrue result.1.1 ↔ (a.now.1 <ℤ b.now.1)) × (result.1.2 ≡ int_cmp a.now.1 b.now.1)
+        × (result.1.3 ≡ Some (int_cmp a.now.1 b.now.1)) }
+    ensures duration { (IsTrue result.2.0 ↔ (a.now.2 ≡ b.now.2))
+        × (IsTrue result.2.1 ↔ (a.now.2 < b.now.2)) × (result.2.2 ≡ nat_cmp a.now.2 b.now.2)
+        × (result.2.3 ≡ Some (nat_cmp a.now.2 b.now.2)) }
+    ensures timestamp { (IsTrue result.3.0 ↔ (a.now.3 ≡ b.now.3))
+        × (IsTrue result.3.1 ↔ (a.now.3 <ℤ b.now.3)) × (result.3.2 ≡ int_cmp a.now.3 b.now.3)
+        × (result.3.3 ≡ Some (int_cmp a.now.3 b.now.3)) }
 {
     (
         (a.0 == b.0, a.0 < b.0, a.0.cmp(&b.0), a.0.partial_cmp(&b.0)),

@@ -108,7 +108,10 @@ fn an_unknown_variant_of_a_string(rt: HostRuntime) -> Result<(), Fail> {
         &rt,
         &[(
             "unknown variant ``",
-            &["{ either: 7 level: ^9 }", "{ either: { other: 'x } level: ^9 }"],
+            &[
+                "{ either: 7 level: ^9 }",
+                "{ either: { other: 'x } level: ^9 }",
+            ],
         )],
     )?;
     assert_errors::<Either>(
@@ -282,7 +285,10 @@ struct Pairs {
 fn a_name_that_another_entry_lacks(rt: HostRuntime) -> Result<(), Fail> {
     assert_errors::<Pairs>(
         &rt,
-        &[("missing field `a_b`", &["{ optional: { } pair: ^'missing }"])],
+        &[(
+            "missing field `a_b`",
+            &["{ optional: { } pair: ^'missing }"],
+        )],
     )
 }
 

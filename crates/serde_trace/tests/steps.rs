@@ -110,7 +110,10 @@ fn keys_of_a_map(rt: HostRuntime) -> Result<(), Fail> {
                 "data did not match any variant of untagged enum",
                 &["{ ^ab: 1 }", "{ a: 1 b: 2 ^cd: 3 }"],
             ),
-            ("invalid type: string \"x\", expected an integer", &["{ a: 1 b: ^'x }"]),
+            (
+                "invalid type: string \"x\", expected an integer",
+                &["{ a: 1 b: ^'x }"],
+            ),
         ],
     )
 }

@@ -5,7 +5,8 @@ use std::fmt;
 
 /// The error returned when parsing a timestamp fails.
 ///
-/// The parsers return the error of the first check that fails. `Display` writes the message of the Rust crate `humantime`.
+/// The parsers return the error of the first check that fails. `Display` writes the message of the
+/// Rust crate `humantime`.
 ///
 /// # Examples
 ///
@@ -19,7 +20,8 @@ use std::fmt;
 /// ```
 #[derive(Clone, Copy, PartialEq, Eq, Debug)]
 pub enum TimestampError {
-    /// A number is out of range, such as month 13 or a year before 1970, or the month does not have that day.
+    /// A number is out of range, such as month 13 or a year before 1970, or the month does not have
+    /// that day.
     OutOfRange,
     /// A byte is not a digit where one is expected.
     InvalidDigit,

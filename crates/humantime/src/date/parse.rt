@@ -1,4 +1,5 @@
-//! Parses timestamps: [`parse_rfc3339`] in the strict format, and [`parse_rfc3339_weak`] in the weak format.
+//! Parses timestamps: [`parse_rfc3339`] in the strict format, and [`parse_rfc3339_weak`] in the
+//! weak format.
 
 ghost use Rattle.std.specs.Prelude.{◌≡◌, ◌^◌, ◌<◌, ◌≤◌, length, false, IsTrue, IfSome, SomeIff, option_map, Err};
 ghost use Rattle.std.specs.Char.{is_ascii_digit};
@@ -14,15 +15,17 @@ use crate::unit::SECONDS_PER_DAY;
 use crate::value::SystemTime;
 use std::simd::prelude::*;
 
-// The first 19 bytes of a timestamp are read as two vectors of 16 bytes, the front from byte 0 and the back from byte 3. Digits in pairs
-// took 1.3 times as long, when tried in Rust. The tables are statics that are read as slices: the kit's own back end loads such a vector
-// with one instruction, and takes five for a literal.
+// The first 19 bytes of a timestamp are read as two vectors of 16 bytes, the front from byte 0 and
+// the back from byte 3. Digits in pairs took 1.3 times as long, when tried in Rust. The tables are
+// statics that are read as slices: the kit's own back end loads such a vector with one instruction,
+// and takes five for a literal.
 
-/// The least byte that is allowed at each of the bytes 0 to 15 of a timestamp, except for byte 10, the separator.
+/// The least byte that is allowed at each of the bytes 0 to 15 of a timestamp, except for byte 10,
+/// the separator.
 static FRONT_MIN: [u8; 16] = *b"0000-00-00 00:00";
 
-/// How far each byte of the front may be above its minimum: 9 for a digit and 0 for punctuation. The separator may be any byte here, and is
-/// tested separately.
+/// How far each byte of the front may be above its minimum: 9 for a digit and 0 for punctuation.
+/// The separator may be any byte here, and is tested separately.
 static FRONT_RANGE: [u8; 16] = [9, 9, 9, 9, 0, 9, 9, 0, 9, 9, 255, 9, 9, 0, 9, 9];
 
 /// The least byte that is allowed at each of the 16 bytes from byte 3 on.
@@ -31,11 +34,13 @@ static BACK_MIN: [u8; 16] = *b"0-00-00 00:00:00";
 /// How far each byte of the back may be above its minimum.
 static BACK_RANGE: [u8; 16] = [9, 0, 9, 9, 0, 9, 9, 255, 9, 9, 0, 9, 9, 0, 9, 9];
 
-/// The weight of each of the first 16 bytes in `dot4` of the kit, which adds up each group of four. The sums are the first three digits of the
-/// year, the month, the day and the minute. The last digit of the year is in the back, because a weight of 1000 does not fit in a `u8`.
+/// The weight of each of the first 16 bytes in `dot4` of the kit, which adds up each group of four.
+/// The sums are the first three digits of the year, the month, the day and the minute. The last
+/// digit of the year is in the back, because a weight of 1000 does not fit in a `u8`.
 static FRONT_WEIGHTS: [u8; 16] = [100, 10, 1, 0, 0, 10, 1, 0, 10, 1, 0, 0, 0, 0, 10, 1];
 
-/// The weight of each of the 16 bytes from byte 3 on. The sums are the last digit of the year, 0, the hour and the second.
+/// The weight of each of the 16 bytes from byte 3 on. The sums are the last digit of the year, 0,
+/// the hour and the second.
 static BACK_WEIGHTS: [u8; 16] = [1, 0, 0, 0, 0, 0, 0, 0, 10, 1, 0, 0, 0, 0, 10, 1];
 
 /// A date and a time of day, which may be out of range.
@@ -47,22 +52,29 @@ struct DateTime {
     second: u32,
 }
 
-/// Parses a timestamp in the weak format, such as `2018-02-14 00:28:07`, and returns the time that it represents.
+/// Parses a timestamp in the weak format, such as `2018-02-14 00:28:07`, and returns the time that
+/// it represents.
 ///
-/// A `T` or a space separates the date from the time. A decimal point and any number of digits, including none, may follow the seconds; digits
-/// after the ninth are ignored. The string may end in `Z` or `+00:00`, and is always in UTC. Second 60 is read as second 59. The format is
-/// based on RFC 3339, and on what the Rust crate `humantime` accepts; `docs/DIFFERENCES.md` lists the differences.
+/// A `T` or a space separates the date from the time. A decimal point and any number of digits,
+/// including none, may follow the seconds; digits after the ninth are ignored. The string may end
+/// in `Z` or `+00:00`, and is always in UTC. Second 60 is read as second 59. The format is based on
+/// RFC 3339, and on what the Rust crate `humantime` accepts; `docs/DIFFERENCES.md` lists the
+/// differences.
 ///
 /// # Errors
 ///
-/// - [`InvalidFormat`](TimestampError::InvalidFormat): the string has fewer than 19 bytes; a `-`, `T`, space or `:` is missing from its
-///   position; or what follows the seconds begins with no decimal point, and is not empty, `Z` or `+00:00`.
-/// - [`InvalidDigit`](TimestampError::InvalidDigit): another of the first 19 bytes is not a digit; or what follows a decimal point after
-///   the seconds is not digits, if any, and then `Z`, `+00:00` or the end.
-/// - [`OutOfRange`](TimestampError::OutOfRange): the date does not exist in the years 1970 to 9999, the hour is above 23, the minute
-///   above 59, or the second above 60.
+/// - [`InvalidFormat`](TimestampError::InvalidFormat): the string has fewer than 19 bytes; a `-` or
+///   `:` is missing from its position, or a `T` or space from between the date and the time; or
+///   what follows the seconds does not begin with a decimal point, and is not empty, `Z` or
+///   `+00:00`.
+/// - [`InvalidDigit`](TimestampError::InvalidDigit): another of the first 19 bytes is not a digit;
+///   or something other than digits, if any, stands between a decimal point after the seconds and
+///   `Z`, `+00:00` or the end.
+/// - [`OutOfRange`](TimestampError::OutOfRange): the date does not exist in the years 1970 to 9999,
+///   the hour is above 23, the minute above 59, or the second above 60.
 ///
-/// If several apply, the checks are in this order: the length, the separators, the digits, the ranges, and what follows the seconds.
+/// If several apply, the checks are in this order: the length, the separators, the digits, the
+/// ranges, and what follows the seconds.
 ///
 /// # Examples
 ///
@@ -83,16 +95,19 @@ pub fn parse_rfc3339_weak(s: &str) -> Result<SystemTime, TimestampError>
     read_timestamp(s.as_bytes())
 }
 
-/// Parses a timestamp in the strict format, such as `2018-02-14T00:28:07Z`, and returns the time that it represents.
+/// Parses a timestamp in the strict format, such as `2018-02-14T00:28:07Z`, and returns the time
+/// that it represents.
 ///
-/// This is the weak format with a `T` between the date and the time, and `Z` or `+00:00` at the end. It is based on RFC 3339. Other UTC
-/// offsets, lowercase letters and years before 1970, which RFC 3339 allows, are rejected. A decimal point without digits and second 60 in any
-/// minute, which RFC 3339 does not allow, are accepted.
+/// This is the weak format with a `T` between the date and the time, and `Z` or `+00:00` at the
+/// end. It is based on RFC 3339. Other UTC offsets, lowercase letters and years before 1970, which
+/// RFC 3339 allows, are rejected. A decimal point without digits and second 60 in any minute, which
+/// RFC 3339 does not allow, are accepted.
 ///
 /// # Errors
 ///
-/// Returns [`InvalidFormat`](TimestampError::InvalidFormat) if the string has fewer than 20 bytes, byte 10 (counted from 0) is not a
-/// `T`, or the string does not end in `Z` or `+00:00`. Otherwise returns the error that [`parse_rfc3339_weak`] returns, if any.
+/// Returns [`InvalidFormat`](TimestampError::InvalidFormat) if the string has fewer than 20 bytes,
+/// byte 10 (counted from 0) is not a `T`, or the string does not end in `Z` or `+00:00`. Otherwise
+/// returns the error that [`parse_rfc3339_weak`] returns, if any.
 ///
 /// # Examples
 ///
@@ -112,7 +127,8 @@ pub fn parse_rfc3339(s: &str) -> Result<SystemTime, TimestampError>
     read_strict(s)
 }
 
-/// Parses a timestamp in the strict format. Returns the time, or the error of the first check that fails.
+/// Parses a timestamp in the strict format. Returns the time, or the error of the first check that
+/// fails.
 #[inline(always)]
 #[tactic(auto, unfolding(crate::proofs::TimestampOutcomes::answers_open))]
 fn read_strict(s: &str) -> Result<SystemTime, TimestampError>
@@ -136,7 +152,8 @@ fn has_t_and_zone(bytes: &[u8]) -> bool
         && (matches!(bytes, [.., b'Z']) || ends_in_zero_offset(bytes))
 }
 
-/// Returns the bytes before the zone (`Z` or `+00:00`) at the end, or all of them if there is no zone.
+/// Returns the bytes before the zone (`Z` or `+00:00`) at the end, or all of them if there is no
+/// zone.
 #[inline(always)]
 #[tactic(auto, using(crate::proofs::TimestampParts::one_zone), unfolding(crate::specs::Timestamps::zone_of))]
 fn before_zone(bytes: &[u8]) -> &[u8]
@@ -158,13 +175,14 @@ fn ends_in_zero_offset(bytes: &[u8]) -> bool
     matches!(bytes, [.., b'+', b'0', b'0', b':', b'0', b'0'])
 }
 
-/// Parses the bytes of a timestamp in the weak format. Returns the time, or the error of the first check that fails.
+/// Parses the bytes of a timestamp in the weak format. Returns the time, or the error of the first
+/// check that fails.
 #[inline(always)]
 #[tactic(auto, using(crate::proofs::Checks::checks), unfolding(crate::proofs::Checks::checks_open))]
 fn read_timestamp(bytes: &[u8]) -> Result<SystemTime, TimestampError>
     ensures { result ≡ weak_answer bytes.now }
 {
-    // Byte 10 separates the date from the time.
+    // Byte 10 separates the date from the time, which `parse_date_time` requires.
     if bytes.len() < 19 || (bytes[10] != b'T' && bytes[10] != b' ') {
         return Err(TimestampError::InvalidFormat);
     }
@@ -176,7 +194,8 @@ fn read_timestamp(bytes: &[u8]) -> Result<SystemTime, TimestampError>
     Ok(SystemTime::after_epoch(seconds, nanos))
 }
 
-/// Returns the error of a string for which [`parse_date_time`] returns `None`. If the punctuation is right, a digit is wrong.
+/// Returns the error of a string for which [`parse_date_time`] returns `None`. If the punctuation
+/// is right, a digit is wrong.
 #[inline(always)]
 #[tactic(auto, using(crate::proofs::Checks::checks), unfolding(crate::proofs::Checks::marks_open))]
 fn layout_error(bytes: &[u8]) -> TimestampError
@@ -192,18 +211,20 @@ fn layout_error(bytes: &[u8]) -> TimestampError
     }
 }
 
-/// Returns the date and time in the first 19 bytes, or `None` if a byte is not the digit or punctuation that its position requires.
-/// The caller must have tested the separator.
+/// Returns the date and time in the first 19 bytes, or `None` if a byte is not the digit or
+/// punctuation that its position requires. The caller must have tested the separator.
 ///
-/// All bytes are tested at once. The difference between a byte and its minimum wraps around to a large number if the byte is below it, so
-/// that one saturating subtraction of the range tests both bounds: it leaves 0 exactly if the byte is in range. Then `dot4` multiplies each
-/// digit by its weight and adds up the products of each group of four bytes.
+/// All bytes are tested at once. The difference between a byte and its minimum wraps around to a
+/// large number if the byte is below it, so that one saturating subtraction of the range tests both
+/// bounds: it leaves 0 exactly if the byte is in range. Then `dot4` multiplies each digit by its
+/// weight and adds up the products of each group of four bytes.
 #[inline(always)]
 #[tactic(auto, using(crate::proofs::Checks::sums_fit))]
 fn parse_date_time(bytes: &[u8]) -> Option<DateTime>
     requires long { 19 ≤ length bytes.now }
     requires separator { IsTrue (has_separator bytes.now) }
-    ensures { SomeIff (option_map date_time_view result) (IsTrue (has_layout bytes.now)) (date_time_of bytes.now) }
+    ensures { SomeIff (option_map date_time_view result) (IsTrue (has_layout bytes.now))
+        (date_time_of bytes.now) }
 {
     let front = u8x16::from_slice(bytes) - u8x16::from_slice(&FRONT_MIN);
     let back = u8x16::from_slice(&bytes[3..]) - u8x16::from_slice(&BACK_MIN);
@@ -223,12 +244,14 @@ fn parse_date_time(bytes: &[u8]) -> Option<DateTime>
     })
 }
 
-/// Returns the number of seconds from 1970-01-01T00:00:00Z to a date and time, or `None` if the date does not exist in 1970 to 9999 or
-/// the time is out of range. Second 60 counts as second 59. The number is below 2^63, as `SystemTime` demands.
+/// Returns the number of seconds from 1970-01-01T00:00:00Z to a date and time, or `None` if the
+/// date does not exist in 1970 to 9999 or the time is out of range. Second 60 counts as second 59.
+/// The number is below 2^63, as `SystemTime` requires.
 #[inline(always)]
 #[tactic(auto, unfolding(crate::specs::Timestamps::is_valid_date_time))]
 fn unix_seconds(when: DateTime) -> Option<u64>
-    ensures value { SomeIff result (IsTrue (is_valid_date_time (date_time_view when))) (seconds_of when.date when.hour when.minute when.second) }
+    ensures value { SomeIff result (IsTrue (is_valid_date_time (date_time_view when)))
+        (seconds_of when.date when.hour when.minute when.second) }
     ensures bound { IfSome result (λ n. n < 2 ^ 63) }
 {
     // `day_number` takes a count that only contracts see.
@@ -240,8 +263,8 @@ fn unix_seconds(when: DateTime) -> Option<u64>
     Some(day as u64 * SECONDS_PER_DAY + second_of_day as u64)
 }
 
-/// Returns the nanoseconds of the fraction in the bytes after the seconds, or 0 if there is no fraction. A zone may follow. Returns an
-/// error if the bytes have any other format.
+/// Returns the nanoseconds of the fraction in the bytes after the seconds, or 0 if there is no
+/// fraction. A zone may follow. Returns an error if the bytes have any other format.
 #[inline(always)]
 #[tactic(auto, unfolding(crate::proofs::TimestampParts::fractions_open))]
 fn fraction_after_seconds(rest: &[u8]) -> Result<u32, TimestampError>
@@ -254,8 +277,8 @@ fn fraction_after_seconds(rest: &[u8]) -> Result<u32, TimestampError>
     }
 }
 
-/// Returns the nanoseconds that the digits after a point represent, or an error if a byte is not a digit. Digits after the ninth
-/// do not change the result.
+/// Returns the nanoseconds that the digits after a point represent, or an error if a byte is not a
+/// digit. Digits after the ninth do not change the result.
 ///
 /// The loop runs over the nine decimal places and not over the digits, so that LLVM unrolls it.
 #[inline(always)]

@@ -29,10 +29,12 @@ enum Precision {
     Nanos,
 }
 
-/// A time that [`text`](Self::text) and `Display` print as a timestamp, with a fraction of 0, 3, 6 or 9 digits.
+/// A time that [`text`](Self::text) and `Display` print as a timestamp, with a fraction of 0, 3, 6
+/// or 9 digits.
 ///
-/// It is returned by the `format_rfc3339` functions. `Display` writes the string that `text` returns in a single write, and ignores
-/// width and fill. For a time outside 1970 to 9999, `Display` returns `fmt::Error` and writes nothing.
+/// It is returned by the `format_rfc3339` functions. `Display` writes the string that `text`
+/// returns in a single write, and ignores width and fill. For a time outside 1970 to 9999,
+/// `Display` returns `fmt::Error` and writes nothing.
 ///
 /// # Examples
 ///
@@ -57,8 +59,9 @@ impl Model for Rfc3339Timestamp {
     ghost use Rattle.humantime.specs.declared.date.print.Precision.TheVariants.{Seconds, Millis, Micros, Nanos};
     ghost use Rattle.std.proofs.Common.{arith, lit≤, ◌≤◌};
 
-    // `view` is what contracts see: the time and its number of fraction digits, 0, 3, 6 or 9. `few` proves, variant by variant, that there
-    // are at most nine. `inverse` maps a view back to its value, as `inverse_ok` proves.
+    // `view` is what contracts see: the time and its number of fraction digits, 0, 3, 6 or 9. `few`
+    // proves, variant by variant, that there are at most nine. `inverse` maps a view back to its
+    // value, as `inverse_ok` proves.
     ghost Value = { MomentToPrint };
 
     ghost view = { λ x. record {
@@ -72,10 +75,12 @@ impl Model for Rfc3339Timestamp {
     ghost inverse_ok = { λ x h. Prim.grind arith };
 }
 
-/// Returns a value that prints `time` as a timestamp with no fraction if its nanoseconds are zero, and with nine digits otherwise.
+/// Returns a value that prints `time` as a timestamp with no fraction if its nanoseconds are zero,
+/// and with nine digits otherwise.
 ///
-/// This function never fails. For a time outside 1970 to 9999, [`text`](Rfc3339Timestamp::text) returns `None` and `Display` returns
-/// [`fmt::Error`]. RFC 3339 defines the format of the timestamp, and the Rust crate `humantime` its number of digits.
+/// This function never fails. For a time outside 1970 to 9999, [`text`](Rfc3339Timestamp::text)
+/// returns `None` and `Display` returns [`fmt::Error`]. RFC 3339 defines the format of the
+/// timestamp, and the Rust crate `humantime` its number of digits.
 ///
 /// # Examples
 ///
@@ -98,7 +103,8 @@ pub fn format_rfc3339(time: SystemTime) -> Rfc3339Timestamp
     }
 }
 
-/// Returns a value that prints `time` as a timestamp with no fraction. The nanoseconds are truncated, not rounded.
+/// Returns a value that prints `time` as a timestamp with no fraction. The nanoseconds are
+/// truncated, not rounded.
 ///
 /// # Examples
 ///
@@ -117,7 +123,8 @@ pub fn format_rfc3339_seconds(time: SystemTime) -> Rfc3339Timestamp
     Rfc3339Timestamp { time, precision }
 }
 
-/// Returns a value that prints `time` as a timestamp with three digits after the decimal point. Further digits are truncated, not rounded.
+/// Returns a value that prints `time` as a timestamp with three digits after the decimal point.
+/// Further digits are truncated, not rounded.
 ///
 /// # Examples
 ///
@@ -136,7 +143,8 @@ pub fn format_rfc3339_millis(time: SystemTime) -> Rfc3339Timestamp
     Rfc3339Timestamp { time, precision }
 }
 
-/// Returns a value that prints `time` as a timestamp with six digits after the decimal point. Further digits are truncated, not rounded.
+/// Returns a value that prints `time` as a timestamp with six digits after the decimal point.
+/// Further digits are truncated, not rounded.
 ///
 /// # Examples
 ///
@@ -191,10 +199,12 @@ impl Rfc3339Timestamp {
         &self.time
     }
 
-    /// Writes the string to the front of `buf` and returns it as a slice of `buf`, or returns `None` outside 1970 to 9999.
+    /// Writes the string to the front of `buf` and returns it as a slice of `buf`, or returns
+    /// `None` outside 1970 to 9999.
     ///
-    /// The string has 20, 24, 27 or 30 bytes; the bytes of `buf` after it are unspecified. If the result is `None`, `buf` is
-    /// unchanged. [`parse_rfc3339`](crate::parse_rfc3339) parses the string to the time, truncated to its digits.
+    /// The string has 20, 24, 27 or 30 bytes; the bytes of `buf` after it are unspecified. If the
+    /// result is `None`, `buf` is unchanged. [`parse_rfc3339`](crate::parse_rfc3339) parses the
+    /// string to the time, truncated to its digits.
     ///
     /// # Examples
     ///
@@ -213,32 +223,36 @@ impl Rfc3339Timestamp {
         ensures within { IsSome result ↔ IsPrintable self.now.moment }
         ensures text { IfSome result (λ t. IsPrinted self.now.moment self.now.places t.now) }
         ensures answer { option_map (λ t. t.now) result ≡ printed_text self.now }
-        ensures reads_back { IfSome result (λ t. strict_answer t.now ≡ Ok (cut self.now.moment self.now.places)) }
+        ensures reads_back { IfSome result
+            (λ t. strict_answer t.now ≡ Ok (cut self.now.moment self.now.places)) }
         ensures* unchanged { sem 𝓛 (KeptAtNone 30 buf.entry result) }
     {
         let len = self.write(buf);
         text_if_any(buf, len)
     }
 
-    /// Writes the string to the front of `buf` and returns its length in bytes. Outside 1970 to 9999, returns `None`, with `buf` unchanged.
+    /// Writes the string to the front of `buf` and returns its length in bytes. Outside 1970 to
+    /// 9999, returns `None`, with `buf` unchanged.
     #[inline(always)]
     fn write(&self, buf: &mut [u8; 30]) -> Option<usize>
         ensures within { IsSome result ↔ IsPrintable self.now.moment }
         ensures fits { IfSome result (λ len. len ≤ 30) }
-        ensures text { IfSome result (λ len. IsPrinted self.now.moment self.now.places (take len buf.new)) }
+        ensures text { IfSome result
+            (λ len. IsPrinted self.now.moment self.now.places (take len buf.new)) }
         ensures unchanged { IfNone result (buf.new ≡ buf.old) }
     {
         let (date, second_of_day) = date_and_time(self.time)?;
         Some(self.write_parts(date, second_of_day, buf))
     }
 
-    /// Writes the string of a date, the seconds after midnight and this time's fraction to the front of `buf`. Returns its length in
-    /// bytes.
+    /// Writes the string of a date, the seconds after midnight and this time's fraction to the
+    /// front of `buf`. Returns its length in bytes.
     #[inline(always)]
     fn write_parts(&self, date: Date, second_of_day: u32, buf: &mut [u8; 30]) -> usize
         requires { IsSecondOf date second_of_day self.now.moment }
         ensures fits { result ≤ 30 }
-        ensures text { take result buf.new ≡ fields_text (printed_fields date second_of_day (nano_of self.now.moment) self.now.places) }
+        ensures text { take result buf.new ≡ fields_text (printed_fields date second_of_day
+            (nano_of self.now.moment) self.now.places) }
     {
         let nanos = self.time.subsec_nanos();
         write_date_time(date, second_of_day, buf);
@@ -247,7 +261,8 @@ impl Rfc3339Timestamp {
             return 20;
         }
         write_two_digits(buf, 20, nanos / 10_000_000);
-        // Digits three and four are written as a pair. If there are only three digits, the `Z` then replaces the fourth.
+        // Digits three and four are written as a pair. If there are only three digits, the `Z` then
+        // replaces the fourth.
         write_two_digits(buf, 22, nanos / 100_000 % 100);
         if self.precision == Precision::Millis {
             buf[23] = b'Z';
@@ -271,7 +286,8 @@ impl fmt::Display for Rfc3339Timestamp {
 
     #[tactic(auto, using(crate::proofs::PrintedTimestamps::text_displayed))]
     fn fmt<W: fmt::Write>(&self, f: &mut fmt::Formatter<W>) -> fmt::Result
-        ensures { DisplaysMoment W.write_str_gives f.old result self.now.moment (printed_text self.now) f.new }
+        ensures { DisplaysMoment W.write_str_gives f.old result self.now.moment
+            (printed_text self.now) f.new }
     {
         let mut buf = [0; 30];
         let text = self.text(&mut buf).ok_or(fmt::Error)?;
@@ -281,7 +297,8 @@ impl fmt::Display for Rfc3339Timestamp {
 
 /// Returns the first `len` bytes as a `str`, or `None` if `len` is `None`.
 ///
-/// This is a separate function so that the handwritten proof of [`Rfc3339Timestamp::text`] can use its contract.
+/// This is a separate function so that the handwritten proof of [`Rfc3339Timestamp::text`] can use
+/// its contract.
 #[inline(always)]
 fn text_if_any(buf: &[u8; 30], len: Option<usize>) -> Option<&str>
     requires prefix { IfSome len (λ n. (n ≤ 30) × IsUtf8 (take n buf.now)) }
@@ -302,16 +319,18 @@ fn date_and_time(time: SystemTime) -> Option<(Date, u32)>
     Some((date, (secs % SECONDS_PER_DAY) as u32))
 }
 
-/// Fills the buffer with the date, `T`, the time of day and `.000000000Z`, over which the caller writes the digits of the fraction. Unless
-/// there are nine, it writes a `Z` after them.
+/// Fills the buffer with the date, `T`, the time of day and `.000000000Z`. The caller writes the
+/// digits of the fraction over the zeros, and a `Z` after them if there are fewer than nine.
 ///
-/// The contract passes 0 nanoseconds and 0 digits to `printed_fields`: the string before the point does not depend on them.
+/// The contract passes 0 nanoseconds and 0 digits to `printed_fields`: the string before the point
+/// does not depend on them.
 #[inline(always)]
 #[tactic(auto, using(crate::proofs::Dates::valid_from_test))]
 fn write_date_time(date: Date, second_of_day: u32, buf: &mut [u8; 30])
     requires date { IsDate date }
     requires time { second_of_day < 86_400 }
-    ensures { buf.new ≡ date_time_text (printed_fields date second_of_day 0 0) ++ codes ".000000000Z" }
+    ensures { buf.new
+        ≡ date_time_text (printed_fields date second_of_day 0 0) ++ codes ".000000000Z" }
 {
     *buf = *b"0000-00-00T00:00:00.000000000Z";
     write_two_digits(buf, 0, date.year / 100);
@@ -323,7 +342,8 @@ fn write_date_time(date: Date, second_of_day: u32, buf: &mut [u8; 30])
     write_two_digits(buf, 17, second_of_day % 60);
 }
 
-/// Writes a number below 100 as two digits at offset `at`. The two stores compile to one move; `copy_from_slice` would compile to a call.
+/// Writes a number below 100 as two digits at offset `at`. The two stores compile to one move;
+/// `copy_from_slice` would compile to a call.
 #[inline(always)]
 #[tactic(auto, using(crate::proofs::PrintedTimestamps::pair_written))]
 fn write_two_digits(buf: &mut [u8; 30], at: usize, n: u32)

@@ -4,7 +4,8 @@ ghost use Rattle.std.specs.Prelude.{◌≡◌, ℕ, List, [], ◌∷◌, ◌++�
 ghost use Rattle.humantime.specs.Characters.{is_digit, max_fraction_digits, u64_max};
 ghost use Rattle.humantime.specs.Durations.{has_too_many_digits};
 
-/// The maximum number of digits in a fraction before its trailing zeros. Any number of so many digits fits in a `u64`.
+/// The maximum number of digits in a fraction before its trailing zeros. Any number of so many
+/// digits fits in a `u64`.
 const MAX_FRACTION_DIGITS: usize = 19;
 
 /// The powers of ten that fit in a `u64`: 10^0 to 10^19. A look-up is faster than `pow`.
@@ -63,15 +64,18 @@ pub(crate) fn power_of_ten(exponent: usize) -> u64
 impl Fraction {
     ghost use Rattle.humantime.specs.PrivateTypes.{HasDigits};
 
-    /// Returns the fraction followed by the ASCII digit `c`, or `None` if it then has more than 19 digits before its trailing zeros.
+    /// Returns the fraction followed by the ASCII digit `c`, or `None` if it then has more than 19
+    /// digits before its trailing zeros.
     #[inline(always)]
     #[tactic(auto, using(crate::proofs::SpanParts::fractions))]
     pub(crate) fn push(self, c: u8) -> Option<Fraction>
         requires digit { is_digit c ≡ true }
         requires digits { (ds : List ℕ) × HasDigits self ds }
         requires room { self.len + 1 < 2 ^ 64 }
-        ensures pushed { (ds : List ℕ) → HasDigits self ds → IfSome result (λ f. HasDigits f (ds ++ c ∷ [])) }
-        ensures full { (ds es : List ℕ) → HasDigits self ds → IfNone result (has_too_many_digits (Some (ds ++ c ∷ es)) ≡ true) }
+        ensures pushed { (ds : List ℕ) → HasDigits self ds
+            → IfSome result (λ f. HasDigits f (ds ++ c ∷ [])) }
+        ensures full { (ds es : List ℕ) → HasDigits self ds
+            → IfNone result (has_too_many_digits (Some (ds ++ c ∷ es)) ≡ true) }
     {
         let len = self.len + 1;
         if c == b'0' {

@@ -79,8 +79,8 @@ impl Error for DurationError<'_> {}
 #[tactic(auto, using(crate::proofs::Messages::texts_written))]
 fn write_number<W: fmt::Write>(text: &str, number: u64, f: &mut fmt::Formatter<W>) -> fmt::Result
     ensures writes { WritesOnOk W.write_str_gives f.old result (text.now ++ decimal number) f.new }
-    ensures styled { WritesStyledOnOk W.write_str_gives f.old result (text.now ++ decimal number)
-        f.new }
+    ensures styled { WritesStyledOnOk W.write_str_gives f.old result
+        (text.now ++ decimal number) f.new }
 {
     f.write_str(text)?;
     f.write_str(Buffer::new().format(number))
@@ -91,8 +91,8 @@ fn write_number<W: fmt::Write>(text: &str, number: u64, f: &mut fmt::Formatter<W
 #[tactic(auto, using(crate::proofs::Messages::texts_written))]
 fn write_unit<W: fmt::Write>(unit: &str, value: u64, f: &mut fmt::Formatter<W>) -> fmt::Result
     ensures writes { WritesOnOk W.write_str_gives f.old result (unit_message unit.now value) f.new }
-    ensures styled { WritesStyledOnOk W.write_str_gives f.old result (unit_message unit.now value)
-        f.new }
+    ensures styled { WritesStyledOnOk W.write_str_gives f.old result
+        (unit_message unit.now value) f.new }
 {
     if unit.is_empty() {
         write_number("time unit needed, for example ", value, f)?;

@@ -7,13 +7,14 @@ use crate::duration::error::DurationError;
 use crate::duration::scan::{read_span, skip_whitespace};
 use crate::duration::span::Span;
 
-/// An iterator over the spans of a string, from left to right, and then the error at which they end, if any.
+/// An iterator over the spans of a string, from left to right, and then the error at which they
+/// end, if any.
 ///
-/// It is returned by [`spans`](crate::spans). After an error or the end of the string, `next` always returns `None`. The offsets of
-/// a span or an error lie on `char` boundaries of the string.
+/// It is returned by [`spans`](crate::spans). After an error or the end of the string, `next`
+/// always returns `None`. The offsets of a span or an error lie on `char` boundaries of the string.
 ///
-/// The clause `next_gives` is the contract of `next`: a call returns the first of the remaining items and leaves the others, or
-/// returns `None` if none remains. The string stays the same.
+/// The clause `next_gives` is the contract of `next`: a call returns the first of the remaining
+/// items and leaves the others, or returns `None` if none remains. The string stays the same.
 ///
 /// # Examples
 ///
@@ -34,7 +35,8 @@ pub struct SpanIter<'a> {
     pub(crate) rest: &'a str,
     /// Whether an error or the end of the string has been returned.
     pub(crate) ended: bool,
-    // `by` proves that two iterators are equal if their other fields are, whatever proofs they hold here.
+    // `by` proves that two iterators are equal if their other fields are, whatever proofs they hold
+    // here.
     ghost tail: { IsTail text.now rest.now } by { Prim.hlevel props },
 }
 
@@ -58,7 +60,8 @@ impl<'a> Iterator for SpanIter<'a> {
         let rest = skip_whitespace(self.rest);
         if rest.is_empty() {
             self.ended = true;
-            // If `rest` is still the whole string, no span has been read, so the string is empty or only whitespace.
+            // If `rest` is still the whole string, no span has been read, so the string is empty or
+            // only whitespace.
             let is_blank = self.rest.len() == self.text.len();
             return is_blank.then_some(Err(DurationError::Empty));
         }

@@ -78,10 +78,10 @@ fn add_amount(total: StdDuration, span: Span) -> Option<StdDuration>
 ///
 /// # Errors
 ///
-/// The errors are those of [`parse_duration`], but products and sums are not checked, nor whether a
-/// fraction is a whole number of nanoseconds or seconds. A number above `u64::MAX`, or a fraction
-/// with more than 19 digits before its trailing zeros, is still an error. Unlike `parse_duration`,
-/// this function rejects `0`, which has no unit.
+/// The errors are those of [`parse_duration`], but this function checks neither products and sums
+/// nor whether a fraction is a whole number of nanoseconds or seconds. A number above `u64::MAX`,
+/// or a fraction with more than 19 digits before its trailing zeros, is still an error. Unlike
+/// `parse_duration`, this function rejects `0`, which has no unit.
 ///
 /// # Examples
 ///

@@ -62,7 +62,8 @@ impl<'b> Writer<'b> {
     {
         let mut buf = Buffer::new();
         let digits = buf.format(number);
-        // One or two digits, as most numbers have, are copied without a call. With one, printing takes 1.7 times as long.
+        // Most numbers have one or two digits, which are copied without a call. If they are copied
+        // by a call, printing takes 1.7 times as long.
         match digits.len() {
             1 => self.push(&digits[..1]),
             2 => self.push(&digits[..2]),
@@ -70,10 +71,12 @@ impl<'b> Writer<'b> {
         }
     }
 
-    /// Appends a count and its unit, preceded by a space unless nothing has been written yet. A count of zero is left out.
+    /// Appends a count and its unit, preceded by a space unless nothing has been written yet. A
+    /// count of zero is left out.
     #[inline(always)]
     fn push_count(&mut self, count: u64, unit: &str)
-        requires fits { self.old.end + 1 + most_bytes count (unit.now, false) ≤ length self.old.bytes.now }
+        requires fits { self.old.end + 1 + most_bytes count (unit.now, false)
+            ≤ length self.old.bytes.now }
         ensures { AppendsCount self.old self.new count (unit.now, false) }
     {
         if count == 0 {
@@ -86,10 +89,12 @@ impl<'b> Writer<'b> {
         self.push(unit);
     }
 
-    /// Appends a count and its unit as `push_count` does, with an `s` after the unit if the count is above 1.
+    /// Appends a count and its unit as `push_count` does, with an `s` after the unit if the count
+    /// is above 1.
     #[inline(always)]
     fn push_plural(&mut self, count: u64, unit: &str)
-        requires fits { self.old.end + 1 + most_bytes count (unit.now, true) ≤ length self.old.bytes.now }
+        requires fits { self.old.end + 1 + most_bytes count (unit.now, true)
+            ≤ length self.old.bytes.now }
         ensures { AppendsCount self.old self.new count (unit.now, true) }
     {
         self.push_count(count, unit);
@@ -102,7 +107,8 @@ impl<'b> Writer<'b> {
     #[inline(always)]
     fn push_zero_if_empty(&mut self)
         requires { 2 ≤ length self.old.bytes.now }
-        ensures { HasWritten self.old self.new (if length (written self.old) == 0 then codes "0s" else written self.old) }
+        ensures { HasWritten self.old self.new
+            (if length (written self.old) == 0 then codes "0s" else written self.old) }
     {
         if self.end == 0 {
             self.push("0s");
@@ -150,10 +156,12 @@ impl Model for FormattedDuration {
 
 /// Returns a value that prints the duration `val`, such as `2h 37m`.
 ///
-/// The format is that of the Rust crate `humantime` with its feature `mu`: counts of years (365.25 days), months (30.44 days), days, hours, minutes, seconds,
-/// milliseconds, microseconds and nanoseconds, largest unit first, each as large as possible, with a space between them. Counts of zero
-/// are left out. The units are written `year`, `month` and `day`, with an `s` if the count is above 1, and `h`, `m`, `s`, `ms`, `µs` (with
-/// the micro sign U+00B5) and `ns`. A duration of zero is `0s`. The string has at most 64 bytes.
+/// The format is that of the Rust crate `humantime` with its feature `mu`: counts of years (365.25
+/// days), months (30.44 days), days, hours, minutes, seconds, milliseconds, microseconds and
+/// nanoseconds, largest unit first, each as large as possible, with a space between them. Counts of
+/// zero are left out. The units are written `year`, `month` and `day`, with an `s` if the count is
+/// above 1, and `h`, `m`, `s`, `ms`, `µs` (with the micro sign U+00B5) and `ns`. A duration of zero
+/// is `0s`. The string has at most 64 bytes.
 ///
 /// # Examples
 ///
@@ -190,8 +198,8 @@ impl FormattedDuration {
 
     /// Writes the string to the front of `buf` and returns it as a slice of `buf`.
     ///
-    /// The bytes of `buf` after the string are unspecified. [`parse_duration`](crate::parse_duration) parses the string to the same
-    /// duration.
+    /// The bytes of `buf` after the string are unspecified.
+    /// [`parse_duration`](crate::parse_duration) parses the string to the same duration.
     ///
     /// # Examples
     ///
@@ -212,10 +220,11 @@ impl FormattedDuration {
     }
 }
 
-/// Writes the string of a duration to the front of the buffer, and returns the string's length in bytes.
+/// Writes the string of a duration to the front of the buffer, and returns the string's length in
+/// bytes.
 ///
-/// The clause `within` holds for every duration. It is here for the proof of [`FormattedDuration::text`], which has only a reference to the
-/// duration.
+/// The clause `within` holds for every duration. It is here for the proof of
+/// [`FormattedDuration::text`], which has only a reference to the duration.
 ///
 /// This is a single function and is not inlined, so that the writer stays in registers.
 #[inline(never)]
@@ -249,8 +258,8 @@ fn write_duration(duration: StdDuration, buf: &mut [u8; 64]) -> usize
 
 /// Writes the string to the formatter in a single write, and returns the formatter's result.
 ///
-/// Width, fill and alignment are ignored, as in the Rust crate `humantime`. To pad a duration, format the `&str` that
-/// [`text`](FormattedDuration::text) returns.
+/// Width, fill and alignment are ignored, as in the Rust crate `humantime`. To pad a duration,
+/// format the `&str` that [`text`](FormattedDuration::text) returns.
 ///
 /// # Examples
 ///
@@ -271,14 +280,15 @@ impl fmt::Display for FormattedDuration {
     }
 }
 
-/// Parses a duration, writes its canonical string to the front of `buf`, and returns the string as a slice of `buf`.
+/// Parses a duration, writes its canonical string to the front of `buf`, and returns the string as
+/// a slice of `buf`.
 ///
 /// The string is the one that [`FormattedDuration::text`] returns for the duration.
 ///
 /// # Errors
 ///
-/// Returns the error that [`parse_duration`] returns for `s`, and leaves `buf` unchanged. The error borrows only from `s`,
-/// so `buf` can be written again while the error is kept.
+/// Returns the error that [`parse_duration`] returns for `s`, and leaves `buf` unchanged. The error
+/// borrows only from `s`, so `buf` can be written again while the error is kept.
 ///
 /// # Examples
 ///
@@ -318,14 +328,16 @@ fn text_or_error<'a, 'b>(
     Ok(str_prefix(buf, len?))
 }
 
-/// Parses a duration, writes its canonical string to the front of the buffer, and returns the string's length in bytes.
+/// Parses a duration, writes its canonical string to the front of the buffer, and returns the
+/// string's length in bytes.
 ///
 /// If parsing fails, returns the error and leaves the buffer unchanged.
 #[tactic(auto, unfolding(crate::specs::DurationResults::canonical_answer))]
 fn write_canonical<'a>(s: &'a str, buf: &mut [u8; 64]) -> Result<usize, DurationError<'a>>
     ensures unchanged { OnErr result (buf.new ≡ buf.old) }
     ensures prefix { IfOk result (λ len. (len ≤ 64) × IsUtf8 (take len buf.new)) }
-    ensures answer { result_map_both (λ len. take len buf.new) fault_of result ≡ canonical_answer (chars s.now) }
+    ensures answer { result_map_both (λ len. take len buf.new) fault_of result
+        ≡ canonical_answer (chars s.now) }
     ensures place { IfErr result (PointsInto s.now) }
 {
     let duration = parse_duration(s)?;

@@ -1,7 +1,9 @@
-//! Reads the parts of a span, such as `1.5d`: its number, point, fraction and word; and then a [`Span`].
+//! Reads the parts of a span, such as `1.5d`: its number, point, fraction and word; and then a
+//! [`Span`].
 //!
-//! A `read_..` function returns a value and the rest of the string, a `skip_..` function only the rest, or the next offset if it takes one.
-//! In contracts, `IsTail text rest` says that `rest` is the end of `text`.
+//! A `read_..` function returns a value and the rest of the string, a `skip_..` function only the
+//! rest, or the next offset if it takes one. In contracts, `IsTail text rest` says that `rest` is
+//! the end of `text`.
 
 ghost use Rattle.std.specs.Prelude.{◌≡◌, ◌==◌, ◌+◌, ◌++◌, ◌<◌, ◌&&◌, ◌||◌, true, chars, option_map, IfSome, ◌≢◌};
 ghost use Rattle.std.specs.Prelude.{IfOk, MatchResult, length};
@@ -17,12 +19,14 @@ use crate::duration::error::DurationError;
 use crate::duration::span::{Number, Span};
 use crate::unit::scale_of;
 
-/// Returns `true` if the two bytes encode `µ` (U+00B5) or `μ` (U+03BC), the only letters outside ASCII in the words of units.
+/// Returns `true` if the two bytes encode `µ` (U+00B5) or `μ` (U+03BC), the only letters outside
+/// ASCII in the words of units.
 #[inline(always)]
 fn is_mu(first: u8, second: u8) -> bool
     ensures { result ≡ ((first == 0xc2 && second == 0xb5) || (first == 0xce && second == 0xbc)) }
 {
-    // A `match` of the pair keeps the loop over digits in registers, which comparisons joined by `&&` and `||` do not.
+    // A `match` of the pair keeps the loop over digits in registers, which comparisons joined by
+    // `&&` and `||` do not.
     matches!((first, second), (0xc2, 0xb5) | (0xce, 0xbc))
 }
 
@@ -40,7 +44,8 @@ fn skip_non_ascii_whitespace(text: &str, at: usize) -> Option<usize>
     c.is_whitespace().then_some(at + c.len_utf8())
 }
 
-/// Returns the offset after the whitespace character at offset `at`, or `None` if the character there is not whitespace.
+/// Returns the offset after the whitespace character at offset `at`, or `None` if the character
+/// there is not whitespace.
 ///
 /// A character must begin at `at`, so `at` is less than the length of the string.
 #[inline(always)]
@@ -50,7 +55,8 @@ fn skip_whitespace_char(text: &str, at: usize) -> Option<usize>
     ensures { IsAfterWhitespace text.now at result }
 {
     let bytes = text.as_bytes();
-    // The byte is usually an ASCII letter. No character from `!` to U+007F is whitespace. This test saves a tenth of the instructions.
+    // The byte is usually an ASCII letter. No character from `!` to U+007F is whitespace. This test
+    // saves a tenth of the instructions.
     if bytes[at] > b' ' && bytes[at] < 0x80 {
         return None;
     }
@@ -59,7 +65,8 @@ fn skip_whitespace_char(text: &str, at: usize) -> Option<usize>
         let is_whitespace = bytes[at] == b' ' || bytes[at] >= b'\t' && bytes[at] <= b'\r';
         return is_whitespace.then_some(at + 1);
     }
-    // A mu is not whitespace. Without this test, `µs` would call the cold function, and take a tenth more instructions.
+    // A mu is not whitespace. Without this test, `µs` would call the cold function, and take a
+    // tenth more instructions.
     if at + 1 < bytes.len() && is_mu(bytes[at], bytes[at + 1]) {
         return None;
     }
@@ -73,7 +80,8 @@ pub(crate) fn skip_whitespace(text: &str) -> &str
     ensures read { chars result.now ≡ drop_while is_whitespace (chars text.now) }
     ensures rest { IsTail text.now result.now }
 {
-    // Usually a digit is first, because `skip_span_end` has skipped the space before it. This test saves a twentieth of the instructions.
+    // Usually a digit is first, because `skip_span_end` has skipped the space before it. This test
+    // saves a twentieth of the instructions.
     if begins_with_digit(text) {
         return text;
     }
@@ -96,8 +104,9 @@ fn begins_with_digit(text: &str) -> bool
     !bytes.is_empty() && bytes[0].is_ascii_digit()
 }
 
-/// Reads the digits at the start of the string, with the whitespace between and after them. Returns the number and the rest, or `None` if its
-/// value does not fit in a `u64`. The string must begin with a digit.
+/// Reads the digits at the start of the string, with the whitespace between and after them. Returns
+/// the number and the rest, or `None` if its value does not fit in a `u64`. The string must begin
+/// with a digit.
 #[inline(always)]
 #[tactic(auto, using(crate::proofs::Offsets::rests, crate::proofs::SpanParts::numbers))]
 fn read_number(text: &str) -> Option<(Number<'_>, &str)>
@@ -106,7 +115,8 @@ fn read_number(text: &str) -> Option<(Number<'_>, &str)>
     ensures rest { IfSome result (λ x. IsTail text.now x.1.now) }
 {
     let bytes = text.as_bytes();
-    // The string begins with a digit. A loop from the first byte on takes an eighth more instructions.
+    // The string begins with a digit. A loop from the first byte on takes an eighth more
+    // instructions.
     let mut value = (bytes[0] - b'0') as u64;
     let mut at = 1;
     while at < bytes.len() {
@@ -127,7 +137,8 @@ fn read_number(text: &str) -> Option<(Number<'_>, &str)>
     Some((number, &text[at..]))
 }
 
-/// Returns what follows the decimal point at the start of the string, or `None` if there is no point.
+/// Returns what follows the decimal point at the start of the string, or `None` if there is no
+/// point.
 #[inline(always)]
 #[tactic(auto, using(crate::proofs::Offsets::first), unfolding(crate::specs::Characters::is_point))]
 fn skip_point(text: &str) -> Option<&str>
@@ -140,12 +151,14 @@ fn skip_point(text: &str) -> Option<&str>
     Some(&text[1..])
 }
 
-/// Reads the digits of a fraction at the start of the string, if any, with the whitespace around and between them. Returns the fraction
-/// with this part of the string, and the rest, or `None` if there are more than 19 digits before the trailing zeros.
+/// Reads the digits of a fraction at the start of the string, if any, with the whitespace around
+/// and between them. Returns the fraction with this part of the string, and the rest, or `None` if
+/// there are more than 19 digits before the trailing zeros.
 #[inline(always)]
 #[tactic(auto, using(crate::proofs::Offsets::rests, crate::proofs::Characters::digit_is))]
 fn read_fraction(text: &str) -> Option<((Fraction, &str), &str)>
-    ensures read { read_view (λ f. (parts_of f.0, chars f.1.now)) result ≡ PrivateFunctions.read_fraction (chars text.now) }
+    ensures read { read_view (λ f. (parts_of f.0, chars f.1.now)) result
+        ≡ PrivateFunctions.read_fraction (chars text.now) }
     ensures rest { IfSome result (λ x. IsTail text.now x.1.now) }
 {
     let bytes = text.as_bytes();
@@ -188,7 +201,8 @@ fn split_word(text: &str) -> (&str, &str)
     (&text[..at], &text[at..])
 }
 
-/// Returns `true` if a fraction has no digits, and a letter or the end of the string follows its point.
+/// Returns `true` if a fraction has no digits, and a letter or the end of the string follows its
+/// point.
 #[inline(always)]
 #[tactic(auto, using(crate::proofs::Offsets::rests))]
 fn is_bare_point(fraction: Fraction, rest: &str) -> bool
@@ -197,17 +211,21 @@ fn is_bare_point(fraction: Fraction, rest: &str) -> bool
     fraction.len == 0 && (rest.is_empty() || !split_word(rest).0.is_empty())
 }
 
-/// Returns the string after the word of a span, without the whitespace character at its start, if any. Returns `None` if the word may not end
-/// there, because a character other than whitespace or a digit follows it.
+/// Returns the string after the word of a span, without the whitespace character at its start, if
+/// any. Returns `None` if the word may not end there, because a character other than whitespace or
+/// a digit follows it.
 ///
-/// It skips one character, since there is usually only one before the next digit. `skip_whitespace` skips the others.
+/// It skips one character, since there is usually only one before the next digit. `skip_whitespace`
+/// skips the others.
 #[inline(always)]
 #[tactic(auto, using(crate::proofs::Offsets::span_ends))]
 fn skip_span_end(text: &str) -> Option<&str>
-    ensures read { option_map (λ t. chars t.now) result ≡ PrivateFunctions.skip_span_end (chars text.now) }
+    ensures read { option_map (λ t. chars t.now) result
+        ≡ PrivateFunctions.skip_span_end (chars text.now) }
     ensures rest { IfSome result (λ t. IsTail text.now t.now) }
 {
-    // The end of the string or a space follows most words. The test for a space saves a twentieth of the instructions.
+    // The end of the string or a space follows most words. The test for a space saves a twentieth
+    // of the instructions.
     if text.is_empty() {
         return Some(text);
     }
@@ -234,15 +252,18 @@ fn offset_in(text: &str, rest: &str) -> usize
     text.len() - rest.len()
 }
 
-/// Reads the span at the start of `rest`, which is the unread end of `text` and not empty. Offsets are those in `text`.
+/// Reads the span at the start of `rest`, which is the unread end of `text` and not empty. Offsets
+/// are those in `text`.
 #[inline(always)]
 #[tactic(auto, using(crate::proofs::Offsets::offsets), unfolding(crate::specs::Walks::fault_at))]
 pub(crate) fn read_span<'a>(text: &'a str, rest: &'a str) -> ReadSpan<'a>
     requires tail { IsTail text.now rest.now }
     requires nonempty { length rest.now ≢ 0 }
-    ensures read { span_result result ≡ PrivateFunctions.read_span (chars text.now) (chars rest.now) }
+    ensures read { span_result result
+        ≡ PrivateFunctions.read_span (chars text.now) (chars rest.now) }
     ensures rest { IfOk result (λ x. IsTail text.now x.1.now) }
-    ensures places { MatchResult result (λ x. IsRangeIn text.now x.0.start x.0.end) (PointsInto text.now) }
+    ensures places { MatchResult result (λ x. IsRangeIn text.now x.0.start x.0.end)
+        (PointsInto text.now) }
 {
     if !begins_with_digit(rest) {
         return Err(DurationError::NumberExpected(offset_in(text, rest)));
@@ -250,7 +271,8 @@ pub(crate) fn read_span<'a>(text: &'a str, rest: &'a str) -> ReadSpan<'a>
     let Some((number, after_number)) = read_number(rest) else {
         return Err(DurationError::NumberOverflow);
     };
-    // `complete_span` is inlined twice, so that a span without a fraction needs no registers for one: 0.93 of the instructions.
+    // `complete_span` is inlined twice, so that a span without a fraction needs no registers for
+    // one: 0.93 of the instructions.
     let Some(after_point) = skip_point(after_number) else {
         return complete_span(text, rest, number, after_number);
     };
@@ -269,8 +291,8 @@ pub(crate) fn read_span<'a>(text: &'a str, rest: &'a str) -> ReadSpan<'a>
     complete_span(text, rest, number, after_fraction)
 }
 
-/// Reads the unit after a number and its fraction, if any, and returns the result of [`read_span`]. The number was read from the start of
-/// `rest`, and `after_digits` follows it and its fraction.
+/// Reads the unit after a number and its fraction, if any, and returns the result of [`read_span`].
+/// The number was read from the start of `rest`, and `after_digits` follows it and its fraction.
 #[inline(always)]
 #[tactic(auto, using(crate::proofs::SpanParts::spans), unfolding(crate::specs::Walks::fault_at))]
 fn complete_span<'a>(
@@ -281,9 +303,11 @@ fn complete_span<'a>(
 ) -> ReadSpan<'a>
     requires tail { IsTail text.now rest.now }
     requires number { IsNumberAt rest.now number after_digits.now }
-    ensures read { span_result result ≡ PrivateFunctions.read_span (chars text.now) (chars rest.now) }
+    ensures read { span_result result
+        ≡ PrivateFunctions.read_span (chars text.now) (chars rest.now) }
     ensures rest { IfOk result (λ x. IsTail text.now x.1.now) }
-    ensures places { MatchResult result (λ x. IsRangeIn text.now x.0.start x.0.end) (PointsInto text.now) }
+    ensures places { MatchResult result (λ x. IsRangeIn text.now x.0.start x.0.end)
+        (PointsInto text.now) }
 {
     let (unit, after_word) = split_word(after_digits);
     // `1foo~` is wrong at the `~`, so what follows the word is tested before the word.

@@ -15,7 +15,8 @@ pub(crate) struct Number<'a> {
     /// The digits, with the whitespace between and after them.
     pub text: &'a str,
     pub value: u64,
-    /// The fraction and its digits, with the whitespace around them, or `None` if there is no point.
+    /// The fraction and its digits, with the whitespace around them, or `None` if there is no
+    /// point.
     pub fraction: Option<(Fraction, &'a str)>,
     ghost few: { ForSome fraction (λ f. f.0.exponent ≤ max_fraction_digits) },
     ghost read: { IsNumberRead text.now value fraction },
@@ -43,7 +44,8 @@ pub struct Span<'a> {
     pub(crate) scale: &'static Scale,
     pub(crate) start: usize,
     pub(crate) end: usize,
-    // Last, since the tag of its fraction would lie over the unit of an error in a `Result`, which LLVM then returns in four parts.
+    // Last, because the tag of its fraction would otherwise be stored where the error of a `Result`
+    // has its unit. LLVM would then return the `Result` in four parts.
     pub(crate) number: Number<'a>,
     ghost read: { scale_of_word (chars unit.now) ≡ Some scale.now },
 }
@@ -70,7 +72,8 @@ impl<'a> Span<'a> {
         self.number.text.trim_end()
     }
 
-    /// Returns the fraction as written in the string, from its first to its last digit, or `None` if there is no decimal point.
+    /// Returns the fraction as written in the string, from its first to its last digit, or `None`
+    /// if there is no decimal point.
     ///
     /// Whitespace between the digits and trailing zeros are included.
     ///

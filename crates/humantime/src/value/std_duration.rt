@@ -13,8 +13,9 @@ use std::marker::Model;
 
 /// A length of time, in whole seconds (`u64`) and nanoseconds below 10^9.
 ///
-/// This is the counterpart of `Duration` in `std::time`, with some of its methods. Contracts see it as its total number of
-/// nanoseconds; order and equality are those of this total. The default is zero.
+/// This is the counterpart of `Duration` in `std::time`, with some of its methods. Contracts see it
+/// as its total number of nanoseconds; order and equality are those of this total. The default is
+/// zero.
 ///
 /// # Examples
 ///
@@ -81,8 +82,9 @@ impl StdDuration {
 
     /// Creates a duration of `secs` seconds and `nanos` nanoseconds.
     ///
-    /// If `nanos` is 10^9 or more, it is carried into the seconds. The caller must prove that the seconds do not overflow
-    /// `u64`; [`checked_new`](Self::checked_new) tests this at run time.
+    /// If `nanos` is 10^9 or more, its whole seconds are added to `secs`. The caller must prove
+    /// that the seconds do not overflow `u64`; [`checked_new`](Self::checked_new) tests this at run
+    /// time.
     ///
     /// # Examples
     ///
@@ -102,9 +104,10 @@ impl StdDuration {
         StdDuration { secs, nanos }
     }
 
-    /// Creates a duration of `secs` seconds and `nanos` nanoseconds, or returns `None` if its seconds overflow `u64`.
+    /// Creates a duration of `secs` seconds and `nanos` nanoseconds, or returns `None` if its
+    /// seconds overflow `u64`.
     ///
-    /// If `nanos` is 10^9 or more, it is carried into the seconds.
+    /// If `nanos` is 10^9 or more, its whole seconds are added to `secs`.
     ///
     /// # Examples
     ///
@@ -115,7 +118,8 @@ impl StdDuration {
     /// assert_eq!(rt; StdDuration::checked_new(u64::MAX, 1_000_000_000), None);
     /// ```
     pub fn checked_new(secs: u64, nanos: u32) -> Option<StdDuration>
-        ensures { SomeIff result (secs + nanos / nanos_per_second < 2 ^ 64) (secs * nanos_per_second + nanos) }
+        ensures { SomeIff result (secs + nanos / nanos_per_second < 2 ^ 64)
+            (secs * nanos_per_second + nanos) }
     {
         let secs = secs.checked_add((nanos / NANOS_PER_SECOND) as u64)?;
         let nanos = nanos % NANOS_PER_SECOND;
@@ -210,16 +214,19 @@ impl StdDuration {
     /// Adds `secs` seconds, or returns `None` if the whole seconds of the sum overflow `u64`.
     #[inline]
     pub(crate) fn checked_add_secs(self, secs: u64) -> Option<StdDuration>
-        ensures { SomeIff result (self / nanos_per_second + secs < 2 ^ 64) (self + secs * nanos_per_second) }
+        ensures { SomeIff result (self / nanos_per_second + secs < 2 ^ 64)
+            (self + secs * nanos_per_second) }
     {
         let secs = self.secs.checked_add(secs)?;
         Some(StdDuration { secs, ..self })
     }
 
-    /// Adds `nanos` nanoseconds. Returns `None` if `nanos + self.subsec_nanos()` or the whole seconds of the sum overflow `u64`.
+    /// Adds `nanos` nanoseconds. Returns `None` if `nanos + self.subsec_nanos()` or the whole
+    /// seconds of the sum overflow `u64`.
     #[inline]
     pub(crate) fn checked_add_nanos(self, nanos: u64) -> Option<StdDuration>
-        ensures { SomeIff result ((self % nanos_per_second + nanos < 2 ^ 64) × ((self + nanos) / nanos_per_second < 2 ^ 64)) (self + nanos) }
+        ensures { SomeIff result ((self % nanos_per_second + nanos < 2 ^ 64)
+            × ((self + nanos) / nanos_per_second < 2 ^ 64)) (self + nanos) }
     {
         let sum = nanos.checked_add(self.nanos as u64)?;
         // A sum below a second carries nothing, and needs no division.

@@ -24,11 +24,13 @@ use std::marker::Model;
 /// ```
 pub const UNIX_EPOCH: SystemTime = SystemTime { secs: 0, nanos: 0 };
 
-/// A time: seconds since 1970-01-01T00:00:00Z (`i64`), and nanoseconds below 10^9 after that second.
+/// A time: seconds since 1970-01-01T00:00:00Z (`i64`), and nanoseconds below 10^9 after that
+/// second.
 ///
-/// This is the counterpart of `SystemTime` in `std::time`, with `checked_add`, `duration_since` and access to its seconds and
-/// nanoseconds. Contracts see it as its number of nanoseconds since 1970-01-01T00:00:00Z, which is negative before then; order and
-/// equality are those of this number.
+/// This is the counterpart of `SystemTime` in `std::time`, with `checked_add`, `duration_since` and
+/// access to its seconds and nanoseconds. Contracts see it as its number of nanoseconds since
+/// 1970-01-01T00:00:00Z, which is negative before then; order and equality are those of this
+/// number.
 ///
 /// # Examples
 ///
@@ -68,8 +70,9 @@ impl Model for SystemTime {
 
 /// The error returned by [`SystemTime::duration_since`] if `earlier` is later than the time.
 ///
-/// It holds the duration from the time to `earlier`. Contracts see it as a number of nanoseconds, and two errors are equal if these are.
-/// Unlike the error of `std::time`, it has no message: it implements neither `Display` nor `Error`.
+/// It holds the duration from the time to `earlier`. Contracts see it as a number of nanoseconds,
+/// and two errors are equal if these are. Unlike the error of `std::time`, it has no message: it
+/// implements neither `Display` nor `Error`.
 ///
 /// # Examples
 ///
@@ -115,7 +118,8 @@ impl SystemTimeError {
 }
 
 impl SystemTime {
-    /// Creates the time `nanos` nanoseconds after second `secs`, or returns `None` if `nanos` is 10^9 or more.
+    /// Creates the time `nanos` nanoseconds after second `secs`, or returns `None` if `nanos` is
+    /// 10^9 or more.
     ///
     /// Seconds are counted from 1970-01-01T00:00:00Z, and are negative before then.
     ///
@@ -157,7 +161,8 @@ impl SystemTime {
         self.secs
     }
 
-    /// Returns the nanoseconds after the second of [`unix_seconds`](Self::unix_seconds), always less than 10^9.
+    /// Returns the nanoseconds after the second of [`unix_seconds`](Self::unix_seconds), always
+    /// less than 10^9.
     ///
     /// They count forward before 1970, too, because that second is rounded down.
     ///
@@ -204,8 +209,8 @@ impl SystemTime {
     ///
     /// # Errors
     ///
-    /// Returns [`SystemTimeError`] if `earlier` is later than this time. The error holds the duration from this time to
-    /// `earlier`.
+    /// Returns [`SystemTimeError`] if `earlier` is later than this time. The error holds the
+    /// duration from this time to `earlier`.
     ///
     /// # Examples
     ///

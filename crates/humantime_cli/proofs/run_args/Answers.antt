@@ -9,4 +9,12 @@ returns-in_err-flush g c =
     let words = ap texts c.as_slice.ensures.value ∙ c.in_ok-words_of.ensures in
     let ends = c.run-status.ensures.ends in
     MatchResult-from_err _ _ _ c.from_residual-in_err-flush.ensures.0
-    (λ _. inr (c.run-status.result, (ends.0, subst (λ w. Answers w ends.0) words ends.1, flushed ends.2 c.in_err-flush.ensures.bytes)))
+    (λ _.
+    inr (
+      c.run-status.result,
+      (
+        ends.0,
+        subst (λ w. Answers w ends.0) words ends.1,
+        flushed ends.2 c.in_err-flush.ensures.bytes,
+      ),
+    ))

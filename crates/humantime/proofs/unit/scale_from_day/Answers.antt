@@ -9,6 +9,9 @@ pub returns-in_default : goal.returns-in_default
 returns-in_default c =
     rw (from_day c.args.word.now c.utf8.word)
     (at_each_length c.args.word.now _ (words_from seconds_per_day) None (length c.args.word.now)
-    (λ n. grind (arith, nat_tests)) (λ n. grind (arith, nat_tests)) (λ n. grind (arith, nat_tests)) (λ n. grind (arith, nat_tests))
-    (λ n. grind (arith, nat_tests)) (λ n. grind (arith, nat_tests)) (λ n. grind (arith, nat_tests)) (λ n. grind (arith, nat_tests))
-    (λ n. grind (arith, nat_tests)) (λ n. grind (arith, nat_tests)) (λ n. grind (arith, nat_tests)) (λ n. grind (arith, nat_tests)))
+    (λ n. grind (arith, nat_tests)) (λ n. grind (arith, nat_tests)) (λ n. grind (arith, nat_tests))
+    (λ n. grind (arith, nat_tests))
+    (λ n. grind (arith, nat_tests)) (λ n. grind (arith, nat_tests)) (λ n. grind (arith, nat_tests))
+    (λ n. grind (arith, nat_tests))
+    (λ n. grind (arith, nat_tests)) (λ n. grind (arith, nat_tests)) (λ n. grind (arith, nat_tests))
+    (λ n. grind (arith, nat_tests)))

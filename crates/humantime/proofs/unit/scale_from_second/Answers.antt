@@ -8,7 +8,11 @@ use Rattle.humantime.proofs.unit.scale_from_second.Goals as goal
 pub returns-in_default : goal.returns-in_default
 returns-in_default c =
     rw (from_second c.args.word.now c.utf8.word)
-    (at_each_length c.args.word.now _ (words_below seconds_per_day (words_from 1)) (scale_from seconds_per_day (chars c.args.word.now)) (length c.args.word.now)
-    (λ n. grind (arith, nat_tests)) (λ n. grind (arith, nat_tests)) (λ n. grind (arith, nat_tests)) (λ n. grind (arith, nat_tests))
-    (λ n. grind (arith, nat_tests)) (λ n. grind (arith, nat_tests)) (λ n. grind (arith, nat_tests)) (λ n. grind (arith, nat_tests))
-    (λ n. grind (arith, nat_tests)) (λ n. grind (arith, nat_tests)) (λ n. grind (arith, nat_tests)) (λ n. grind (arith, nat_tests)))
+    (at_each_length c.args.word.now _ (words_below seconds_per_day (words_from 1))
+    (scale_from seconds_per_day (chars c.args.word.now)) (length c.args.word.now)
+    (λ n. grind (arith, nat_tests)) (λ n. grind (arith, nat_tests)) (λ n. grind (arith, nat_tests))
+    (λ n. grind (arith, nat_tests))
+    (λ n. grind (arith, nat_tests)) (λ n. grind (arith, nat_tests)) (λ n. grind (arith, nat_tests))
+    (λ n. grind (arith, nat_tests))
+    (λ n. grind (arith, nat_tests)) (λ n. grind (arith, nat_tests)) (λ n. grind (arith, nat_tests))
+    (λ n. grind (arith, nat_tests)))

@@ -8,4 +8,5 @@ rounded : (text : List ℕ) (v secs : ℕ) → Accepted text v → v ≤ secs * 
 rounded text v secs is fits = (v, is, fits)
 
 pub returns-in-Some : goal.returns-in-Some
-returns-in-Some c = rounded _ _ _ ((c.in_ok-parse_duration.ensures.value _).0 refl) c.in-Some.ensures
+returns-in-Some c =
+    rounded _ _ _ ((c.in_ok-parse_duration.ensures.value _).0 refl) c.in-Some.ensures

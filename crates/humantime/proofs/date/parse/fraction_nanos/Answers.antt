@@ -7,15 +7,27 @@ use Rattle.humantime.proofs.date.parse.fraction_nanos.Goals as goal
 
 pub loop-place-preserved : goal.loop-place-preserved
 loop-place-preserved c =
-    let step = next_digit c.args.digits.now c.loop-place.place c.loop-place.nanos _ c.loop-place.place_value (grind (arith, nat_tests)) (sym c.if-not-is_ascii_digit.ensures.value) refl in
+    let step =
+    next_digit c.args.digits.now c.loop-place.place c.loop-place.nanos _
+    c.loop-place.place_value (grind (arith, nat_tests))
+    (sym c.if-not-is_ascii_digit.ensures.value) refl in
     grind (arith, common_steps, nat_tests, step, next_place)
 
 pub returns-then-place-digits : goal.returns-then-place-digits
 returns-then-place-digits c =
-    rw (nine_read c.args.digits.now _ _ _ (omega arith) c.loop-place.invariant.unit c.loop-place.invariant.digits c.loop-place.invariant.added) (grind (arith, common_steps))
+    rw (nine_read c.args.digits.now _ _ _ (omega arith) c.loop-place.invariant.unit
+    c.loop-place.invariant.digits c.loop-place.invariant.added) (grind (arith, common_steps))
 
 pub returns : goal.returns
 returns c =
-    let read = nine_read c.args.digits.now _ _ _ (omega arith) c.loop-place.invariant.unit c.loop-place.invariant.digits c.loop-place.invariant.added in
+    let read =
+    nine_read c.args.digits.now _ _ _ (omega arith) c.loop-place.invariant.unit
+    c.loop-place.invariant.digits c.loop-place.invariant.added in
     let end : c.loop-place.place ≡ 9 = omega arith in
-    rw (read, end, sym (rw (take_rest c.args.digits.now 9) at c.are_digits.ensures), c.ok_or.ensures.value, c.then_some.ensures) (grind arith)
+    rw (
+      read,
+      end,
+      sym (rw (take_rest c.args.digits.now 9) at c.are_digits.ensures),
+      c.ok_or.ensures.value,
+      c.then_some.ensures,
+    ) (grind arith)

@@ -6,7 +6,8 @@ use Rattle.humantime.proofs.duration.parse.sum_of.Given as goal
 
 abbrev pub invariant-loop-item : goal.invariant-loop-item
 invariant-loop-item l = record {
-  so_far : sum_spans l.total (map span_in (items_left l.items)) ≡ sum_spans 0 (map span_in (item_views (chars l.text)));
+  so_far : sum_spans l.total (map span_in (items_left l.items))
+      ≡ sum_spans 0 (map span_in (item_views (chars l.text)));
   text : text_of l.items ≡ l.text;
 }
 

@@ -11,7 +11,9 @@ returns-in_default-clause-places c =
 
 pub returns-in_default-scale_of-clause-places : goal.returns-in_default-scale_of-clause-places
 returns-in_default-scale_of-clause-places c =
-    let part = tail_part _ _ _ _ (tail_tail _ _ _ c.requires.tail c.requires.number.tail) c.split_word.ensures.rest c.split_word.ensures.whole in
+    let part =
+    tail_part _ _ _ _ (tail_tail _ _ _ c.requires.tail c.requires.number.tail)
+    c.split_word.ensures.rest c.split_word.ensures.whole in
     grind (arith, part)
 
 pub returns-clause-places : goal.returns-clause-places

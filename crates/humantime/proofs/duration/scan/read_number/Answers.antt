@@ -9,27 +9,49 @@ use Rattle.humantime.proofs.Offsets.{front_is, no_chars_at}
 use Rattle.humantime.proofs.duration.scan.read_number.Goals as goal
 
 pub loop-at-init : goal.loop-at-init
-loop-at-init c = grind (arith, nat_tests, IsCharBoundary-start, first_digit, (read_digit c.args.text.now 0 c.utf8.text), digit_value_digit, digit_range, digit_is)
+loop-at-init c = grind (
+  arith,
+  nat_tests,
+  IsCharBoundary-start,
+  first_digit,
+  (read_digit c.args.text.now 0 c.utf8.text),
+  digit_value_digit,
+  digit_range,
+  digit_is,
+)
 
 pub loop-at-preserved-then-is_ascii_digit : goal.loop-at-preserved-then-is_ascii_digit
 loop-at-preserved-then-is_ascii_digit c =
     grind (arith, (read_digit c.args.text.now c.loop-at.at c.utf8.text), digit_value_digit, digit_is, digit_range)
 
 pub loop-at-preserved : goal.loop-at-preserved
-loop-at-preserved c = grind (arith, (read_whitespace c.args.text.now c.loop-at.at c.in-Some.next c.utf8.text))
+loop-at-preserved c =
+    grind (arith, (read_whitespace c.args.text.now c.loop-at.at c.in-Some.next c.utf8.text))
 
 pub returns-in_err-value-clause-read : goal.returns-in_err-value-clause-read
 returns-in_err-value-clause-read c =
-    grind (arith, nat_tests, (read_digit c.args.text.now c.loop-at.at c.utf8.text), digit_value_digit, digit_is, digit_range, value_grows)
+    grind (
+      arith,
+      nat_tests,
+      (read_digit c.args.text.now c.loop-at.at c.utf8.text),
+      digit_value_digit,
+      digit_is,
+      digit_range,
+      value_grows,
+    )
 
 pub invariant_of-number-clause-read : goal.invariant_of-number-clause-read
 invariant_of-number-clause-read c =
-    let ended : begins is_numeric (chars (drop c.loop-at.at c.args.text.now)) ≡ false = search (rules, no_chars_at, stops_here) in
-    let front = front_is is_numeric c.args.text.now c.loop-at.at c.utf8.text c.loop-at.invariant.place in
+    let ended : begins is_numeric (chars (drop c.loop-at.at c.args.text.now)) ≡ false =
+    search (rules, no_chars_at, stops_here) in
+    let front =
+    front_is is_numeric c.args.text.now c.loop-at.at c.utf8.text c.loop-at.invariant.place in
     grind (arith, common_steps, nat_tests, ended, front, c.loop-at.invariant)
 
 pub returns-clause-read : goal.returns-clause-read
 returns-clause-read c =
-    let ended : begins is_numeric (chars (drop c.loop-at.at c.args.text.now)) ≡ false = search (rules, no_chars_at, stops_here) in
-    let front = front_is is_numeric c.args.text.now c.loop-at.at c.utf8.text c.loop-at.invariant.place in
+    let ended : begins is_numeric (chars (drop c.loop-at.at c.args.text.now)) ≡ false =
+    search (rules, no_chars_at, stops_here) in
+    let front =
+    front_is is_numeric c.args.text.now c.loop-at.at c.utf8.text c.loop-at.invariant.place in
     grind (arith, common_steps, nat_tests, ended, front, c.loop-at.invariant)

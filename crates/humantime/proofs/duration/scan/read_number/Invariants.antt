@@ -7,7 +7,8 @@ use Rattle.humantime.proofs.duration.scan.read_number.Given as goal
 abbrev pub invariant-loop-at : goal.invariant-loop-at
 invariant-loop-at l = record {
   place : IsCharBoundary l.text l.at;
-  value : digits_value_after 10 l.value (number_of (chars (drop l.at l.text))) ≡ decimal_value (number_of (chars l.text));
+  value : digits_value_after 10 l.value (number_of (chars (drop l.at l.text)))
+      ≡ decimal_value (number_of (chars l.text));
   after : after_number (chars (drop l.at l.text)) ≡ after_number (chars l.text);
   fits : l.value ≤ u64_max;
 }

@@ -5,7 +5,9 @@ use Rattle.humantime.proofs.Characters.{digit_is_numeric, digit_not_whitespace}
 use Rattle.humantime.proofs.duration.scan.skip_span_end.Goals as goal
 
 pub range_from-requires-2 : goal.range_from-requires-2
-range_from-requires-2 c _ = (whitespace_ends _ _ c.utf8.text (grind arith) c.in_ok-len.ensures.0 c.in_ok-len.ensures.1).0
+range_from-requires-2 c _ =
+    (whitespace_ends _ _ c.utf8.text (grind arith) c.in_ok-len.ensures.0 c.in_ok-len.ensures.1).0
 
 pub returns-then-begins_with_digit-clause-read : goal.returns-then-begins_with_digit-clause-read
-returns-then-begins_with_digit-clause-read c = grind (arith, common_steps, digit_is_numeric, digit_not_whitespace)
+returns-then-begins_with_digit-clause-read c =
+    grind (arith, common_steps, digit_is_numeric, digit_not_whitespace)

@@ -4,4 +4,5 @@ use Rattle.humantime_settings.proofs.fields.BTreeMapStringValue.write.Given as g
 
 abbrev pub invariant-loop-key : goal.invariant-loop-key
 invariant-loop-key g l =
-    WritesUpTo (WritesPair g.T.Text.IsPrintedAs g.T.Text.IsParsedFrom) l.self.entries l.key-iterator (g.S.Serializer.written l.initial.out) (g.S.Serializer.written l.out)
+    WritesUpTo (WritesPair g.T.Text.IsPrintedAs g.T.Text.IsParsedFrom) l.self.entries l.key-iterator
+    (g.S.Serializer.written l.initial.out) (g.S.Serializer.written l.out)

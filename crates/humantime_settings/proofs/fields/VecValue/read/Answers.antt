@@ -13,5 +13,10 @@ loop-preserved g c =
 
 pub returns-then-not-branch : goal.returns-then-not-branch
 returns-then-not-branch g c =
-    let all = all_read g.T.Text.IsParsedFrom (λ t a b. Begins g.F.Format.gives g.F.Format.stays a (text t) b) _ _ _ c.loop.invariant in
-    (texts all.0, (all.0, refl, all.1), (c.begin_seq.new.self, c.loop.from, c.in_ok-begin_seq.ensures, all.2, search rules))
+    let all =
+    all_read g.T.Text.IsParsedFrom (λ t a b.
+    Begins g.F.Format.gives g.F.Format.stays a (text t) b) _ _ _ c.loop.invariant in (
+      texts all.0,
+      (all.0, refl, all.1),
+      (c.begin_seq.new.self, c.loop.from, c.in_ok-begin_seq.ensures, all.2, search rules),
+    )

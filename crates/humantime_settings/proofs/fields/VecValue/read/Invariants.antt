@@ -6,4 +6,5 @@ use Rattle.humantime_settings.proofs.fields.VecValue.read.Given as goal
 
 abbrev pub invariant-loop : goal.invariant-loop
 invariant-loop g l =
-    InTurn (ReadsAs g.T.Text.IsParsedFrom (λ t a b. Begins g.F.Format.gives g.F.Format.stays a (text t) b)) l.items.items l.initial.from l.from
+    InTurn (ReadsAs g.T.Text.IsParsedFrom (λ t a b.
+    Begins g.F.Format.gives g.F.Format.stays a (text t) b)) l.items.items l.initial.from l.from

@@ -5,5 +5,6 @@ use Rattle.humantime.proofs.date.print.Rfc3339Timestamp.write.Goals as goal
 
 pub returns-clause-text : goal.returns-clause-text
 returns-clause-text c =
-    let is = rw (ap (λ (x : MomentToPrint). x.moment) c.self.view_is) at c.in_ok-date.ensures.value in
+    let same = ap (λ (x : MomentToPrint). x.moment) c.self.view_is in
+    let is = rw same at c.in_ok-date.ensures.value in
     rw c.write_parts.ensures.text (shown_printed _ _ _ _ c.args.self.now.few is)
