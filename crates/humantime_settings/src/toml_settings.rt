@@ -46,9 +46,10 @@ use toml_parser::ErrorKind;
 /// assert_eq!(rt; waits.get("second"), Some(&AsText(StdDuration::from_secs(90))));
 /// let text = "first = '1s'\nsecond = '1m 30'\n";
 /// let error = from_toml::<Waits>(rt.alloc(), text).err().ok_or("read")?;
-/// let shown = error.to_string(rt.alloc())?;
-/// assert!(rt; shown.starts_with("line 2, column 16: time unit needed, for example 30sec"));
-/// assert!(rt; shown.ends_with("\nsecond = '1m 30'\n               ^"));
+/// let shown = "line 2, column 16: time unit needed, for example 30sec or 30ms\
+///     \nsecond = '1m 30'\
+///     \n               ^";
+/// assert_eq!(rt; error.to_string(rt.alloc())?.as_str(), shown);
 /// ```
 pub fn from_toml<T: DeserializeOwned>(alloc: Global, text: &str) -> Result<T, SettingsError>
     ensures document { OnOk result (IsSome (parse_document text.now)) }
