@@ -2,8 +2,8 @@
 use Rattle.humantime.specs.Characters.{whitespace_chars, is_whitespace, u64_max}
 use Rattle.humantime.specs.DurationErrors.{Fault, HasFault}
 use Rattle.humantime.specs.DurationResults.{duration_text, duration_answer, canonical_answer}
-use Rattle.humantime.specs.Durations.{Quantity, SpelledSpan, HasOnly, Spells, SpellsEach, quantity_nanos, size, times, total, additions_of, additions, value, Formed, fits, Accepted, SumOf}
-use Rattle.humantime.specs.PrintedDurations.{IsCanonicalOf, Suffix, printed_count, joined_by_space, IsCanonicalText}
+use Rattle.humantime.specs.Durations.{Quantity, SpelledSpan, HasOnly, Spells, SpellsSpans, quantity_nanos, size, times, total, additions_of, additions, value, Formed, fits, Accepted, SumOf}
+use Rattle.humantime.specs.PrintedDurations.{CanonicalizesTo, Suffix, printed_count, joined_or_zero, IsCanonicalText}
 use Rattle.humantime.specs.Values.{duration_end, nanos_per_second}
 use Rattle.std.proofs.Common.{arith, ◌≡◌, ◌↔◌, ℕ, List, Result, Ok, Err, refl, true, ◌*◌, ◌/◌, ◌%◌, ◌^◌, ◌<◌, ◌≤◌, [], ◌∷◌, ◌++◌, sym, ◌∙◌, chars, IsUtf8, codes, decimal, map, nat_lt, mul_assoc, mul_comm, append_assoc, append-nil, filter}
 use Rattle.std.proofs.lemmas.Bool.{and_parts}
@@ -23,7 +23,7 @@ use Rattle.humantime.proofs.OnLiterals.{humantime_on_literals}
 
 -- The result is the canonical text, or the fault.
 pub answer_is_canonical : (s : List ℕ) (r : Result (List ℕ) Fault) → r ≡ canonical_answer (chars s)
-    → (t : List ℕ) → (r ≡ Ok t) ↔ IsCanonicalOf s t
+    → (t : List ℕ) → (r ≡ Ok t) ↔ CanonicalizesTo s t
 unfolding canonical_answer
 answer_is_canonical s r e t =
     let decided = answer_accepts (chars s) (duration_answer (chars s)) refl in
@@ -76,7 +76,7 @@ count_chars n s h = grind (
 printed_span : (w m n : ℕ) (s : Suffix) → IsPrintedWord w m (word_for n s) → w * n < m
     → w * n < duration_end → IsPrintedSpan n s × (total (additions_of (span_for n s)) ≡ w * n)
 printed_span w m n s i below whole =
-    let few = few m n i.0.whole i.3 i.4 (rw i.2 below) (rw i.2 whole) in
+    let few = few m n i.0.one i.3 i.4 (rw i.2 below) (rw i.2 whole) in
     let utf8 = IsUtf8-append (decimal n) (word_for n s)
     (IsUtf8-from_ascii (decimal n) (IsAscii-decimal n few.0)) i.5 in
     grind (arith, common_steps, (decimal_number n few.0), count_chars, few, i, rw (← append_assoc) at utf8)
@@ -127,7 +127,7 @@ abbrev pub counts_text : List (ℕ × Suffix) → List ℕ
 counts_text cs = join_with_byte space (map (λ c. printed_count c.0 c.1) cs)
 
 counts_spell : (cs : List (ℕ × Suffix)) → AllPrintedSpans cs
-    → SpellsEach (chars (counts_text cs)) (spans_of cs)
+    → SpellsSpans (chars (counts_text cs)) (spans_of cs)
 unfolding is_whitespace whitespace_chars
 counts_spell [] h = chars-nil
 counts_spell (c ∷ []) h = ([], rw append-nil at (h.0.1 [] tt), refl)
@@ -150,7 +150,7 @@ counts_within (c ∷ cs) h = grind (arith, (counts_within cs h.1), each-append)
 -- The text of counts whose sum is a duration is accepted with that duration.
 all_accepted : (cs : List (ℕ × Suffix)) (d : ℕ) → AllPrintedSpans cs → value (spans_of cs) ≡ d
     → d / nanos_per_second ≤ u64_max
-    → Accepted (chars (joined_by_space (map (λ c. printed_count c.0 c.1) cs))) d
+    → Accepted (chars (joined_or_zero (map (λ c. printed_count c.0 c.1) cs))) d
 unfolding humantime_on_literals
 all_accepted [] d h sum short = rw (← sum) (accepted_from_outcome (chars (codes "0s")) 0 refl)
 all_accepted (c ∷ cs) d h sum short =
@@ -194,16 +194,16 @@ texts_tell_apart a b ha hb s t left right =
     )
 
 -- The canonical text of an accepted text is accepted with the same value.
-canonical_read : (s t : List ℕ) (h : IsCanonicalOf s t) → Accepted (chars t) h.duration
+canonical_read : (s t : List ℕ) (h : CanonicalizesTo s t) → Accepted (chars t) h.duration
 canonical_read s t h =
     canon_reads h.duration (grind (arith, h.accepted, room_is_duration)) t h.canon
 
-pub keeps_its_value : (s : List ℕ) (v : ℕ) (t : List ℕ) → Accepted (chars s) v → IsCanonicalOf s t
+pub keeps_its_value : (s : List ℕ) (v : ℕ) (t : List ℕ) → Accepted (chars s) v → CanonicalizesTo s t
     → Accepted (chars t) v
 keeps_its_value s v t accepted h =
     rw (same_read (chars s) v h.duration accepted h.accepted) (canonical_read s t h)
 
-pub keeps_its_text : (s t u : List ℕ) → IsCanonicalOf s t → (IsCanonicalOf t u ↔ (u ≡ t))
+pub keeps_its_text : (s t u : List ℕ) → CanonicalizesTo s t → (CanonicalizesTo t u ↔ (u ≡ t))
 keeps_its_text s t u h = (
   (λ k.
       grind (

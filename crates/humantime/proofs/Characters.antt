@@ -1,6 +1,6 @@
 -- Classes of characters, the longest runs of a class, and the value of digits.
-use Rattle.humantime.specs.Characters.{whitespace_chars, is_whitespace, is_digit, is_letter, is_point, is_numeric, without_trailing_zeros, take_while, drop_while, begins, ends, decimal_value}
-use Rattle.humantime.specs.Durations.{HasOnly, has_whole_part}
+use Rattle.humantime.specs.Characters.{whitespace_chars, is_whitespace, is_digit, is_letter, is_point, in_number, without_trailing_zeros, take_while, drop_while, begins, ends, decimal_value}
+use Rattle.humantime.specs.Durations.{HasOnly, is_exact_fraction}
 use Rattle.std.proofs.Common.{◌≡◌, ◌≤◌, ◌<◌, ℕ, true, false, refl, arith, ◌≢◌, Bool, List, [], ◌∷◌, ◌++◌, length, ap, inl, inr, length-append, ◌+◌, ◌*◌, ◌/◌, ◌%◌, ◌^◌, append_assoc, reverse, ◌&&◌, ◌||◌, ◌==◌, nat_le, Decides, pow-add}
 use Rattle.std.proofs.lemmas.Bool.{agree_below_at, or_left, or_right, cases_Bool}
 use Rattle.std.proofs.lemmas.Bool.Decides.{nat_tests}
@@ -34,15 +34,15 @@ unfolding is_whitespace whitespace_chars
 ascii_whitespace c low =
     agree_below_at is_whitespace (λ c. c == 32 || (nat_le 9 c && nat_le c 13)) 128 c refl low
 
-pub point_not_numeric : (c : ℕ) → is_point c ≡ true → is_numeric c ≡ false
+pub point_not_in_number : (c : ℕ) → is_point c ≡ true → in_number c ≡ false
 unfolding is_digit is_point
-point_not_numeric c e = grind (arith, (whitespace_is c), nat_tests)
+point_not_in_number c e = grind (arith, (whitespace_is c), nat_tests)
 
-pub digit_is_numeric : (c : ℕ) → is_digit c ≡ true → is_numeric c ≡ true
-digit_is_numeric c = or_left (is_digit c) (is_whitespace c)
+pub digit_in_number : (c : ℕ) → is_digit c ≡ true → in_number c ≡ true
+digit_in_number c = or_left (is_digit c) (is_whitespace c)
 
-pub whitespace_is_numeric : (c : ℕ) → is_whitespace c ≡ true → is_numeric c ≡ true
-whitespace_is_numeric c = or_right (is_digit c) (is_whitespace c)
+pub whitespace_in_number : (c : ℕ) → is_whitespace c ≡ true → in_number c ≡ true
+whitespace_in_number c = or_right (is_digit c) (is_whitespace c)
 
 -- Digits are ASCII.
 pub digit_is : (c : ℕ) → is_ascii_digit c ≡ is_digit c
@@ -196,9 +196,9 @@ product_shifted : (f : ℕ) (ds : List ℕ) → decimal_value ds * f
 product_shifted f ds = grind (arith, value_shifted, zeros_count, mul_right_comm)
 
 -- A whole part stays a whole part, with the same value.
-pub whole_part_kept : (f : ℕ) (ds : List ℕ) → has_whole_part f ds ≡ true
-    → has_whole_part f (without_trailing_zeros ds) ≡ true
-whole_part_kept f ds h =
+pub exact_fraction_kept : (f : ℕ) (ds : List ℕ) → is_exact_fraction f ds ≡ true
+    → is_exact_fraction f (without_trailing_zeros ds) ≡ true
+exact_fraction_kept f ds h =
     let by = 10 ^ length (zeros_of ds) in
     let kept = decimal_value (without_trailing_zeros ds) * f in
     let rest : kept * by % (10 ^ length (without_trailing_zeros ds) * by) ≡ 0 =

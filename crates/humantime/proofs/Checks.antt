@@ -1,7 +1,7 @@
 -- The layout of a timestamp, tested on all bytes at once.
 use Rattle.humantime.specs.PrivateFunctions.{has_layout}
 use Rattle.humantime.specs.TimestampResults.{weak_answer}
-use Rattle.humantime.specs.Timestamps.{DateAndTime, Letter_T, Space, Fields, fraction_digits, has_two, has_punctuation, has_digits, date_time_of, is_valid_date_time, zone_of, fraction_part, has_point, weak_checks, first_failed, has_separator}
+use Rattle.humantime.specs.Timestamps.{DateAndTime, Letter_T, Space, Fields, fraction_digits, has_two_digits, has_punctuation, has_digits, date_time_of, is_valid_date_time, zone_of, fraction_part, may_be_fraction, weak_checks, first_failed, has_separator}
 use Rattle.std.proofs.Common.{◌≡◌, ℕ, ◌≤◌, List, [], ◌∷◌, length, get_or, drop, refl, arith, ◌+◌, ◌-◌, ◌%◌, ◌^◌, ◌<◌, Bool, cond, eqb, ltb, ◌&&◌, map, replicate, take, Fits, w8, ap, ◌∙◌, ◌*◌, T, le-leb, true, slice_index, Option, Some, None, ◌==◌, if◌then◌else◌, codes, nat_eq, bit_or}
 use Rattle.std.proofs.lemmas.Bool.{and_parts, agree_below_at}
 use Rattle.std.proofs.lemmas.Bool.Decides.{nat_tests}
@@ -26,7 +26,7 @@ use Rattle.humantime.proofs.TimestampParts.{has_two_from_test, number_of_two, nu
 pub all_passed : (bytes : List ℕ) → first_failed (weak_checks bytes) ≡ None
     → (19 ≤ length bytes) × (has_punctuation bytes ≡ true) × (has_digits bytes ≡ true)
     × (is_valid_date_time (date_time_of bytes) ≡ true)
-    × (has_point (fraction_part bytes) ≡ true)
+    × (may_be_fraction (fraction_part bytes) ≡ true)
     × (all_ascii_digits (drop 1 (fraction_part bytes)) ≡ true)
 all_passed bytes h = grind (arith, nat_tests)
 
@@ -55,9 +55,11 @@ fields_of bytes = record {
 
 -- The pairs of digits at their positions.
 pub pairs_from_test : (bytes : List ℕ) → has_digits bytes ≡ true
-    → (has_two bytes 0 ≡ true) × (has_two bytes 2 ≡ true) × (has_two bytes 5 ≡ true)
-    × (has_two bytes 8 ≡ true)
-    × (has_two bytes 11 ≡ true) × (has_two bytes 14 ≡ true) × (has_two bytes 17 ≡ true)
+    → (has_two_digits bytes 0 ≡ true) × (has_two_digits bytes 2 ≡ true)
+    × (has_two_digits bytes 5 ≡ true)
+    × (has_two_digits bytes 8 ≡ true)
+    × (has_two_digits bytes 11 ≡ true) × (has_two_digits bytes 14 ≡ true)
+    × (has_two_digits bytes 17 ≡ true)
 unfolding has_digits
 pairs_from_test bytes h = grind (arith, and_parts)
 
@@ -148,7 +150,7 @@ signs_first s t u v a b c d e f g h i j k l m n = grind arith
 bytes_tested : (bytes : List ℕ) → 19 ≤ length bytes → ((k : ℕ) → Fits w8 (get_or bytes k 0))
     → has_separator bytes ≡ true
     → list_all (λ n. nat_eq n 0) (beyond bytes) ≡ has_layout bytes
-unfolding has_layout has_punctuation has_digits has_two
+unfolding has_layout has_punctuation has_digits has_two_digits
 bytes_tested bytes long fits separator =
     let byte = λ (k : ℕ). get_or bytes k 0 in
     let shown = λ (k : ℕ). is_ascii_digit (byte k) in

@@ -1,8 +1,8 @@
 -- The counts of a duration by unit, and the texts that they print as.
-use Rattle.humantime.specs.Characters.{begins, decimal_value, is_digit, is_numeric, digits, is_letter, u64_max}
+use Rattle.humantime.specs.Characters.{begins, decimal_value, is_digit, in_number, digits, is_letter, u64_max}
 use Rattle.humantime.specs.DurationResults.{divided, duration_text}
 use Rattle.humantime.specs.Durations.{HasOnly, SpelledSpan, Quantity, Nanos, Seconds, Scale, scale_of_word, quantity_nanos, size, is_some_and}
-use Rattle.humantime.specs.PrintedDurations.{Suffix, weights, suffixes, printed_count, printed_counts, joined_by_space, weighted_sum, AreCounts, IsCanonicalText}
+use Rattle.humantime.specs.PrintedDurations.{Suffix, weights, suffixes, printed_count, printed_counts, joined_or_zero, weighted_sum, AreCounts, IsCanonicalText}
 use Rattle.humantime.specs.PrivateFunctions.{joined_after}
 use Rattle.humantime.specs.Values.{duration_end, nanos_per_micro, nanos_per_milli, nanos_per_second, seconds_per_minute, seconds_per_hour, seconds_per_day, seconds_per_month, seconds_per_year}
 use Rattle.std.proofs.Common.{ℕ, ◌<◌, ◌≤◌, length, arith, ◌≡◌, ◌/◌, ◌%◌, List, [], ◌∷◌, refl, ap, ◌∙◌, rules, ◌++◌, ◌^◌, true, nat_cmp, IsTrue, ◌*◌, Bool, cond, ◌+◌, append_assoc, length-append, is_le, take, sym, subst, decimal, ◌==◌, if◌then◌else◌, codes, ◌&&◌, Some, None, nat_lt, nat_le, map, slice_index, mul_comm, zip, filter}
@@ -25,7 +25,7 @@ use Rattle.std.specs.Cmp.{nat_cmp_is}
 use Rattle.std.specs.Str.{IsUtf8, is_utf8, chars}
 use borrow.Rule.Slice.PartMut.{put_mid}
 use lib.Utf8.{encode}
-use Rattle.humantime.proofs.Characters.{all_pass, digit_is_numeric}
+use Rattle.humantime.proofs.Characters.{all_pass, digit_in_number}
 
 -- ==== The digits of a number in decimal, and how many they are.
 
@@ -71,7 +71,7 @@ abbrev pub or_zero : List ℕ → List ℕ
 or_zero text = if length text == 0 then codes "0s" else text
 
 or_zero_joined : (ns : List ℕ) (ss : List Suffix) → AllByRecursion (λ s. 0 < length s.0) ss
-    → or_zero (joined_after [] (printed_counts ns ss)) ≡ joined_by_space (printed_counts ns ss)
+    → or_zero (joined_after [] (printed_counts ns ss)) ≡ joined_or_zero (printed_counts ns ss)
 or_zero_joined (n ∷ ns) (s ∷ ss) h =
     grind (arith, common_steps, nat_tests, length-append, (or_zero_joined ns ss h.1))
 or_zero_joined _ _ h = refl
@@ -101,14 +101,14 @@ written_is_text d =
 
 -- ==== The digits of a printed count, as a number in a text.
 
-all_digits : (ds : List ℕ) → AllDigits 10 ds → HasOnly is_numeric ds × (digits ds ≡ ds)
+all_digits : (ds : List ℕ) → AllDigits 10 ds → HasOnly in_number ds × (digits ds ≡ ds)
 unfolding is_digit
 all_digits [] h = (h, refl)
 all_digits (c ∷ cs) h =
-    grind (arith, nat_tests, digit_is_numeric, digit_from_value, (all_digits cs h.1))
+    grind (arith, nat_tests, digit_in_number, digit_from_value, (all_digits cs h.1))
 
 pub decimal_number : (n : ℕ) → n < 2 ^ 64
-    → (begins is_digit (decimal n) ≡ true) × HasOnly is_numeric (decimal n)
+    → (begins is_digit (decimal n) ≡ true) × HasOnly in_number (decimal n)
     × (digits (decimal n) ≡ decimal n) × (decimal_value (decimal n) ≡ n)
 unfolding is_digit
 decimal_number n h = grind (arith, nat_tests, (decimal_is_IsNumeral n h), all_digits)
@@ -174,15 +174,15 @@ is_of_kind m (Seconds n) = true
 -- The word is letters, and denotes such a unit, which has `w` nanoseconds.
 abbrev pub IsPrintedWord : ℕ → ℕ → List ℕ → Type 0
 IsPrintedWord w m word =
-    (unit : Scale) × (scale_of_word (chars word) ≡ Some unit) × (quantity_nanos unit.whole ≡ w)
-    × (0 < size unit.whole) × (is_of_kind m unit.whole ≡ true)
+    (unit : Scale) × (scale_of_word (chars word) ≡ Some unit) × (quantity_nanos unit.one ≡ w)
+    × (0 < size unit.one) × (is_of_kind m unit.one ≡ true)
     × IsUtf8 word × HasOnly is_letter (chars word) × (begins is_letter (chars word) ≡ true)
 
 abbrev is_word : ℕ → ℕ → List ℕ → Bool
 is_word w m word =
     is_utf8 word && list_all is_letter (chars word) && begins is_letter (chars word)
-    && is_some_and (λ u. (quantity_nanos u.whole == w) && nat_lt 0 (size u.whole)
-    && is_of_kind m u.whole) (scale_of_word (chars word))
+    && is_some_and (λ u. (quantity_nanos u.one == w) && nat_lt 0 (size u.one)
+    && is_of_kind m u.one) (scale_of_word (chars word))
 
 pub is_word-true : (w m : ℕ) (word : List ℕ) → is_word w m word ≡ true → IsPrintedWord w m word
 is_word-true w m word h = grind (arith, nat_tests, IsUtf8-from_is_utf8, all_pass)
@@ -244,7 +244,7 @@ counts_length (u ∷ us) (k ∷ ks) m r h below =
     )
 counts_length _ _ m r h below = grind arith
 
-joined_length : (ps : List (List ℕ)) → spaced_length ps ≤ 65 → length (joined_by_space ps) ≤ 64
+joined_length : (ps : List (List ℕ)) → spaced_length ps ≤ 65 → length (joined_or_zero ps) ≤ 64
 joined_length ps h = grind (arith, join_length)
 
 pub canon_length : (d : ℕ) → d / nanos_per_second ≤ u64_max → (text : List ℕ)

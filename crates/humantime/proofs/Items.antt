@@ -1,11 +1,11 @@
 -- The items of a text, as `spans` returns them, and the slices of the text between them.
 use Rattle.humantime.specs.Characters.{drop_while, take_while, is_whitespace, bare_zero, byte_length, is_point}
 use Rattle.humantime.specs.DurationErrors.{span_of, Empty, Fault, after_word}
-use Rattle.humantime.specs.DurationResults.{duration_answer, view_at, item_views, span_in, left_at}
+use Rattle.humantime.specs.DurationResults.{duration_answer, view_at, item_views, span_in, items_from}
 use Rattle.humantime.specs.Durations.{SpelledSpan, HasOnly}
-use Rattle.humantime.specs.Items.{SpanView, AreSpanViews, items_of, AreItems, IsDigitSlice, IsFractionView, IsSpanView}
+use Rattle.humantime.specs.Items.{SpanView, AreSpanViews, items_of, AreItems, IsDigitSlice, IsFractionSlice, IsSpanView}
 use Rattle.humantime.specs.Laws.{IsTiled, is_gap, slices_of}
-use Rattle.humantime.specs.PrivateFunctions.{after_space, read_span}
+use Rattle.humantime.specs.PrivateFunctions.{after_one_whitespace, read_span}
 use Rattle.humantime.specs.Walks.{walk, walk_of, items, sum_spans, fault_at}
 use Rattle.std.proofs.Common.{if◌then◌else◌, ◌≡◌, ◌≢◌, IsUtf8, chars, arith, ℕ, Bool, true, List, [], ◌∷◌, map, Option, Result, Err, refl, ◌≤◌, ◌<◌, false, None, Ok, length, length-append, ◌++◌, Some, sym, ap, append_assoc, append-nil, flat_map, is_ok, option_to_list}
 use Rattle.std.proofs.lemmas.Bool.{and_parts}
@@ -19,7 +19,7 @@ use Rattle.std.specs.Str.{byte}
 use Rattle.humantime.proofs.Offsets.{no_bytes, some_chars}
 use Rattle.humantime.proofs.TextWalks.{items_found_at, items_walked, Steps, by_walk, walk-go}
 use Rattle.humantime.proofs.Outcomes.{duration_answer-items}
-use Rattle.humantime.proofs.Spellings.{is_fine, next_of, each-append}
+use Rattle.humantime.proofs.Spellings.{no_fault_is_span, next_of, each-append}
 use Rattle.humantime.proofs.Slices.{one_view_each, is_span_view, spelled_at, next_bytes}
 use Rattle.humantime.proofs.Characters.{take_while-only, take_while-drop_while}
 
@@ -34,7 +34,7 @@ spans_read text (rest ∷ starts) stop = grind (arith, spelled_at, (spans_read t
 -- Unless the text is `0`, the sum of its items is its outcome.
 sum_views_outcome : (text : List ℕ) → text ≢ bare_zero
     → sum_spans 0 (map span_in (item_views text)) ≡ duration_answer text
-unfolding items left_at
+unfolding items items_from
 sum_views_outcome text some = grind (arith, spans_read, (duration_answer-items text some))
 
 -- The same for the bytes of the text, since a text whose one character is `0` is that byte.
@@ -44,21 +44,21 @@ sum_answers bs u n =
     sum_views_outcome (chars bs) (λ e. n (grind (arith, (encodes-chars bs u), encode_ascii)))
 
 -- Each span of a walk has its view, up to the rest that the walk leaves.
-lends : (text : List ℕ) → Steps text
+walk_has_views : (text : List ℕ) → Steps text
     (λ rest w. AreSpanViews text rest (map span_of w.starts) (map (view_at text) w.starts) w.rest)
-lends text = grind (arith, next_of, is_span_view, is_fine)
+walk_has_views text = grind (arith, next_of, is_span_view, no_fault_is_span)
 
 pub are_items : (text : List ℕ) → AreItems text (item_views text)
-unfolding items left_at
+unfolding items items_from
 are_items text =
     let i = items_found_at text in
     record {
       spans = (items text).0;
       stop = (items text).1;
-      slices = map (view_at text) (walk_of text).starts;
+      views = map (view_at text) (walk_of text).starts;
       items = i.0;
-      are = refl;
-      each = rw i.1 (by_walk text _ (lends text) (drop_while is_whitespace text));
+      listed_are = refl;
+      each = rw i.1 (by_walk text _ (walk_has_views text) (drop_while is_whitespace text));
     }
 
 pub one_span_view : (text : List ℕ) (others : List (Result SpanView Fault)) → AreItems text others
@@ -83,23 +83,24 @@ first_error_answers text listed others e a first some =
 
 -- ==== One step over the items of a text.
 
-after_space_bytes : (cs : List ℕ) → byte_length (after_space cs) ≤ byte_length cs
-after_space_bytes cs = grind (arith, common_steps, length-append)
+after_one_whitespace_bytes : (cs : List ℕ) → byte_length (after_one_whitespace cs) ≤ byte_length cs
+after_one_whitespace_bytes cs = grind (arith, common_steps, length-append)
 
 pub step_ended : (first : Bool) (text : List ℕ)
-    → left_at first text [] ≡ (if first then Err Empty ∷ [] else [])
-unfolding left_at walk fault_at
+    → items_from first text [] ≡ (if first then Err Empty ∷ [] else [])
+unfolding items_from walk fault_at
 step_ended first text = grind arith
 
 pub step_stopped : (first : Bool) (text rest : List ℕ) (f : Fault) → rest ≢ []
-    → Err f ≡ read_span text rest → left_at first text rest ≡ Err f ∷ []
-unfolding left_at walk
+    → Err f ≡ read_span text rest → items_from first text rest ≡ Err f ∷ []
+unfolding items_from walk
 step_stopped first text rest f some e = grind (arith, common_steps)
 
 -- A span that was read has no fault.
-fine : (text rest next : List ℕ) (x : SpanView) → Ok (x, next) ≡ read_span text rest
-    → (fault_at text rest ≡ None) × (x ≡ view_at text rest) × (next ≡ after_space (after_word rest))
-fine text rest next x e = grind (arith, common_steps)
+read_without_fault : (text rest next : List ℕ) (x : SpanView) → Ok (x, next) ≡ read_span text rest
+    → (fault_at text rest ≡ None) × (x ≡ view_at text rest)
+    × (next ≡ after_one_whitespace (after_word rest))
+read_without_fault text rest next x e = grind (arith, common_steps)
 
 pub step_shorter : (text rest next : List ℕ) (x : SpanView) → IsUtf8 rest → IsUtf8 next
     → Ok (x, chars next) ≡ read_span text (chars rest) → length next < length rest
@@ -108,18 +109,18 @@ step_shorter text rest next x u v e =
       arith,
       (encodes-chars rest u),
       (encodes-chars next v),
-      (is_fine text (chars rest)),
-      (fine text (chars rest) (chars next) x e),
-      after_space_bytes,
+      (no_fault_is_span text (chars rest)),
+      (read_without_fault text (chars rest) (chars next) x e),
+      after_one_whitespace_bytes,
       next_bytes,
     )
 
 pub step_goes : (first : Bool) (text rest next : List ℕ) (x : SpanView)
     → Ok (x, next) ≡ read_span text rest
-    → left_at first text rest ≡ Ok x ∷ left_at false text (drop_while is_whitespace next)
-unfolding left_at
+    → items_from first text rest ≡ Ok x ∷ items_from false text (drop_while is_whitespace next)
+unfolding items_from
 step_goes first text rest next x e =
-    grind (arith, common_steps, (fine text rest next x e), (walk-go text rest))
+    grind (arith, common_steps, (read_without_fault text rest next x e), (walk-go text rest))
 
 -- ==== The slices of the items of a text tile it up to where the spans stop.
 
@@ -146,7 +147,7 @@ digits-tiled text slice after slices h tiled =
     (h.before, h.after ++ after, grind (arith, append_assoc, h.whole), only_gap h.before h.only_before, rest)
 
 fraction-tiled : (text : List ℕ) (fraction : Option (List ℕ)) (after : List ℕ) (slices : List (List ℕ))
-    → IsFractionView text fraction → IsTiled after slices
+    → IsFractionSlice text fraction → IsTiled after slices
     → IsTiled (text ++ after) (option_to_list fraction ++ slices)
 unfolding is_point
 fraction-tiled text None after slices view tiled = rw view tiled
@@ -191,10 +192,11 @@ pub front_tiled : (text : List ℕ) (items : List (Result SpanView Fault)) (are 
     → IsTiled are.items.front (flat_map slices_of items)
 front_tiled text items are =
     let white = take_while is_whitespace text in
-    let found = views_tile text _ are.spans are.slices are.items.rest are.stop are.each in
+    let found = views_tile text _ are.spans are.views are.items.rest are.stop are.each in
     let same : white ++ found.0 ≡ are.items.front = append_cancel_right _ _ are.items.rest
     (grind (arith, append_assoc, found.1, (take_while-drop_while is_whitespace text), are.items.split.whole)) in
-    rw (are.are, sym same) (gap-tiled white found.0 _ (only_gap white (take_while-only is_whitespace text)) found.2)
+    rw (are.listed_are, sym same)
+    (gap-tiled white found.0 _ (only_gap white (take_while-only is_whitespace text)) found.2)
 
 pub text_tiled : (text : List ℕ) (items : List (Result SpanView Fault)) → AreItems text items
     → list_all is_ok items ≡ true → IsTiled text (flat_map slices_of items)

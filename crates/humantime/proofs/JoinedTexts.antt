@@ -1,16 +1,16 @@
 -- The value of a text without whitespace, and of two texts that are joined.
 use Rattle.humantime.specs.Characters.{is_whitespace, is_letter, digits, is_point, is_digit, bare_zero}
 use Rattle.humantime.specs.DurationErrors.{NumberOverflow, HasFault}
-use Rattle.humantime.specs.Durations.{SpelledSpan, HasOnly, Spells, SpellsEach, SpellsAll, Reads, Accepted, BareZero, SumOf, additions, value, Formed, fits, AllHaveRoom, additions_of}
+use Rattle.humantime.specs.Durations.{SpelledSpan, HasOnly, Spells, SpellsSpans, SpellsFront, Reads, Accepted, BareZero, SumOf, additions, value, Formed, fits, AllHaveRoom, additions_of}
 use Rattle.humantime.specs.Laws.{without_whitespace, AcceptedAs}
 use Rattle.std.proofs.Common.{◌≡◌, ℕ, Bool, List, [], ◌∷◌, refl, arith, ◌≢◌, ◌↔◌, ◌⊎◌, ◌+◌, true, ◌++◌, None, inl, inr, append_assoc, append-nil}
 use Rattle.std.proofs.lemmas.Bool.{or_parts}
 use Rattle.std.proofs.lemmas.Grind.{common_steps, flat_map-append}
 use Rattle.std.proofs.lemmas.List.Sums.{sum_by-append}
 use Rattle.std.specs.List.{AllByRecursion}
-use Rattle.humantime.proofs.Characters.{digit_not_whitespace, letter_not_whitespace, point_not_numeric}
+use Rattle.humantime.proofs.Characters.{digit_not_whitespace, letter_not_whitespace, point_not_in_number}
 use Rattle.humantime.proofs.TextWalks.{not_zero}
-use Rattle.humantime.proofs.Spellings.{each-append, respelled, spells-append, spells_each-append}
+use Rattle.humantime.proofs.Spellings.{each-append, respelled, spells-append, spells_spans-append}
 use Rattle.humantime.proofs.Sums.{within_or_beyond}
 use Rattle.humantime.proofs.Outcomes.{items_whole, items_decide_overflow, outcome_accepted, outcome_fault, accepted_spans}
 
@@ -41,13 +41,13 @@ spells_span text rest span h =
       still_only,
       digit_not_whitespace,
       or_parts,
-      point_not_numeric,
+      point_not_in_number,
     )
 
-spells_each : (body : List ℕ) (spans : List SpelledSpan) → SpellsEach body spans
-    → SpellsEach (without_whitespace body) spans
-spells_each body [] h = grind arith
-spells_each body (s ∷ ss) h = grind (arith, spells_span, (spells_each h.0 ss h.2))
+spells_spans : (body : List ℕ) (spans : List SpelledSpan) → SpellsSpans body spans
+    → SpellsSpans (without_whitespace body) spans
+spells_spans body [] h = grind arith
+spells_spans body (s ∷ ss) h = grind (arith, spells_span, (spells_spans h.0 ss h.2))
 
 pub accepted_without_whitespace : (text : List ℕ) (v : ℕ) → Accepted text v
     → Accepted (without_whitespace text) v
@@ -55,15 +55,16 @@ unfolding is_digit
 accepted_without_whitespace text v (BareZero z none) =
     BareZero (rw (z, digit_not_whitespace 48 refl) refl) none
 accepted_without_whitespace text v (SumOf spans reads within sum) =
-    SumOf spans (grind (arith, common_steps, (kept reads.0.whitespace), spells_each, reads)) within sum
+    SumOf spans (grind (arith, common_steps, (kept reads.0.whitespace), spells_spans, reads)) within
+    sum
 
 -- ==== Joined texts.
 
 -- Whitespace after a span belongs to it.
-spells_each-whitespace : (body whitespace : List ℕ) (s : SpelledSpan) (ss : List SpelledSpan)
-    → SpellsEach body (s ∷ ss) → HasOnly is_whitespace whitespace
-    → SpellsEach (body ++ whitespace) (s ∷ ss)
-spells_each-whitespace body whitespace s [] h only = (
+spells_spans-whitespace : (body whitespace : List ℕ) (s : SpelledSpan) (ss : List SpelledSpan)
+    → SpellsSpans body (s ∷ ss) → HasOnly is_whitespace whitespace
+    → SpellsSpans (body ++ whitespace) (s ∷ ss)
+spells_spans-whitespace body whitespace s [] h only = (
   [],
   grind (
     arith,
@@ -74,20 +75,20 @@ spells_each-whitespace body whitespace s [] h only = (
   ),
   refl,
 )
-spells_each-whitespace body whitespace s (t ∷ ts) h only = (
+spells_spans-whitespace body whitespace s (t ∷ ts) h only = (
   h.0 ++ whitespace,
   spells-append body h.0 whitespace s h.1,
-  spells_each-whitespace h.0 whitespace t ts h.2 only,
+  spells_spans-whitespace h.0 whitespace t ts h.2 only,
 )
 
 -- Spans followed by spans.
-front-append : (a b : List ℕ) (ss ts : List SpelledSpan) → Reads a ss → SpellsAll b ts
+front-append : (a b : List ℕ) (ss ts : List SpelledSpan) → Reads a ss → SpellsFront b ts
     → Reads (a ++ b) (ss ++ ts)
 front-append a b [] ts h k = absurd (h.1 refl)
 front-append a b (s ∷ ss) ts h k =
     let each =
-    spells_each-append _ k.body (s ∷ ss) ts
-    (spells_each-whitespace h.0.body k.whitespace s ss h.0.each k.only_whitespace) k.each in
+    spells_spans-append _ k.body (s ∷ ss) ts
+    (spells_spans-whitespace h.0.body k.whitespace s ss h.0.each k.only_whitespace) k.each in
     grind (arith, append_assoc, h.0.whole, k.whole, each)
 
 -- The text is any whitespace followed by one or more spans with this value that keep all limits

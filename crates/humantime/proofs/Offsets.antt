@@ -1,7 +1,7 @@
 -- Offsets in a text, the characters at them, and the ends of a text.
 use Rattle.humantime.specs.Characters.{begins, drop_while, take_while, is_letter, is_whitespace, is_digit, byte_length, offset_of}
 use Rattle.humantime.specs.DurationErrors.{IsCharStartIn, IsRangeIn, IsPartOf, may_follow_span}
-use Rattle.humantime.specs.PrivateFunctions.{after_space, whitespace_len}
+use Rattle.humantime.specs.PrivateFunctions.{after_one_whitespace, whitespace_len}
 use Rattle.humantime.specs.PrivateTypes.{IsTail}
 use Rattle.std.proofs.Common.{◌≡◌, ◌<◌, ◌≤◌, ◌+◌, ℕ, List, [], ◌∷◌, ◌++◌, length, get_or, drop, refl, ap, sym, ◌∙◌, arith, length-drop, IsUtf8, IsCharBoundary, chars, encode_utf8, encode_utf8_all, Bool, true, false, ◌≢◌, ◌-◌, take, length-append, length-take, ◌==◌, ◌&&◌, ◌||◌, nat_lt, ne_eqb, get_or-drop, take-append-drop, drop-drop}
 use Rattle.std.proofs.lemmas.Bool.{cases_lt}
@@ -11,7 +11,7 @@ use Rattle.std.proofs.lemmas.List.{append_cancel_right}
 use Rattle.std.proofs.lemmas.Str.{IsUtf8-drop, IsCharBoundary-past_char, drop_past_char, chars_past_char, byte_from_char, char_from_byte, len_utf8_ascii, len_utf8_bounds, encodes-chars, encode_same, IsCharBoundary-start, IsUtf8-take, IsCharBoundary-from_drop, chars-append, chars-nil}
 use Rattle.std.specs.Char.{is_ascii_alphabetic, is_ascii_digit, len_utf8}
 use Rattle.std.proofs.Math.Utf8.{encode}
-use Rattle.humantime.proofs.Characters.{ascii_whitespace, digit_not_whitespace, letter_not_whitespace, whitespace_is_numeric, take_while-drop_while}
+use Rattle.humantime.proofs.Characters.{ascii_whitespace, digit_not_whitespace, letter_not_whitespace, whitespace_in_number, take_while-drop_while}
 
 -- ==== Offsets in a text, and the characters at them.
 
@@ -156,16 +156,25 @@ no_whitespace_at_mu text at u place some pair =
 pub whitespace_ends : (text : List ℕ) (at : ℕ) → IsUtf8 text → 0 < length text
     → 0 < whitespace_len (chars text) → at ≡ 0 + whitespace_len (chars text)
     → IsCharBoundary text at × (may_follow_span (chars text) ≡ true)
-    × (chars (drop at text) ≡ after_space (chars text))
+    × (chars (drop at text) ≡ after_one_whitespace (chars text))
 whitespace_ends text at u some white n =
-    grind (arith, whitespace_is_numeric, (whitespace_over text 0 at u (some, IsCharBoundary-start text u)))
+    grind (
+      arith,
+      whitespace_in_number,
+      (whitespace_over text 0 at u (some, IsCharBoundary-start text u)),
+    )
 
 -- A space ends a span, and is one byte.
 pub space_ends : (text : List ℕ) → IsUtf8 text → 0 < length text → get_or text 0 0 ≡ 32
     → IsCharBoundary text 1 × (may_follow_span (chars text) ≡ true)
-    × (chars (drop 1 text) ≡ after_space (chars text))
+    × (chars (drop 1 text) ≡ after_one_whitespace (chars text))
 space_ends text u some e =
-    grind (arith, ascii_whitespace, whitespace_is_numeric, (ascii_at text 0 u (some, IsCharBoundary-start text u)))
+    grind (
+      arith,
+      ascii_whitespace,
+      whitespace_in_number,
+      (ascii_at text 0 u (some, IsCharBoundary-start text u)),
+    )
 
 -- ==== The end parts of a text, as bytes.
 
@@ -177,8 +186,8 @@ pub slice_tail : (text rest : List ℕ) (at : ℕ) → IsUtf8 text → IsUtf8 re
 slice_tail text rest at u v e n = record {
   shorter = omega (arith, n);
   ends = e ∙ ap (λ (k : ℕ). drop k text) (omega (arith, n));
-  utf8 = v;
-  whole = u;
+  rest_utf8 = v;
+  text_utf8 = u;
 }
 
 pub tail_tail : (text middle rest : List ℕ) → IsTail text middle → IsTail middle rest
@@ -193,14 +202,15 @@ tail_tail text middle rest t r = record {
     r.shorter,
     (drop-drop (length middle - length rest) (length text - length middle) text),
   );
-  utf8 = r.utf8;
-  whole = t.whole;
+  rest_utf8 = r.rest_utf8;
+  text_utf8 = t.text_utf8;
 }
 
 pub tail_boundary : (text rest : List ℕ) → IsTail text rest
     → IsCharBoundary text (length text - length rest)
 tail_boundary text rest t =
-    IsCharBoundary-from_drop text (length text - length rest) (omega arith) (rw (← t.ends) (t.utf8))
+    IsCharBoundary-from_drop text (length text - length rest) (omega arith)
+    (rw (← t.ends) (t.rest_utf8))
 
 pub tail_offset : (text rest : List ℕ) → IsTail text rest
     → length text - length rest ≡ offset_of (chars text) (chars rest)

@@ -14,8 +14,8 @@ use Rattle.std.specs.List.{AllByRecursion}
 use Rattle.std.proofs.lemmas.List.Sorted.{sum_by-IsPermutation}
 use Rattle.humantime.specs.declared.duration.error.DurationError.{DurationError}
 use Rattle.humantime.proofs.Sums.{spans_summed, within_from-front, within_tells, value-cons}
-use Rattle.humantime.proofs.Characters.{digit_is_numeric}
-use Rattle.humantime.proofs.Spellings.{fine_goes, each-append}
+use Rattle.humantime.proofs.Characters.{digit_in_number}
+use Rattle.humantime.proofs.Spellings.{span_has_no_fault, each-append}
 use Rattle.humantime.proofs.TextWalks.{front_walked, items_found, items_walked, not_zero, one_reading, split_whole, too_large_found, walk-go}
 
 -- ==== The result of the reference is the value or the fault of the text, and the only one.
@@ -68,8 +68,8 @@ unfolding items
 over_outcome text e h b =
     let walk =
     front_walked text h.front h.rest h.spans h.split h.within.formed
-    (inr (inl (grind (arith, digit_is_numeric)))) in
-    let right = walk-go text h.rest (fine_goes text h.rest b.span) in
+    (inr (inl (grind (arith, digit_in_number)))) in
+    let right = walk-go text h.rest (span_has_no_fault text h.rest b.span) in
     let here = span_of h.rest ∷ [] in
     let summed = outcome_summed text (items text).0 (items text).1 h.not_zero (items_found text) in
     grind (

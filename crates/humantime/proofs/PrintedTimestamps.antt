@@ -1,7 +1,7 @@
 -- A moment has one printed text, and texts are ordered like their moments.
 use Rattle.humantime.specs.Calendar.{IsDate, day_of}
 use Rattle.humantime.specs.Laws.{PrintInOrder, ReadsAs}
-use Rattle.humantime.specs.PrivateFunctions.{IsSecondOf}
+use Rattle.humantime.specs.PrivateFunctions.{IsDateAndSecondOf}
 use Rattle.humantime.specs.TimestampResults.{last_digits, printed_fields, fields_at, moment_text, printed_text}
 use Rattle.humantime.specs.Timestamps.{MomentToPrint, IsWeakMoment, IsStrictMoment, fraction_nanos, fraction_digits, Letter_T, Letter_Z, Fields, fields_text, fraction_text, moment_of, IsPrintable, IsPrinted, places_of, cut, year_10000}
 use Rattle.humantime.specs.Values.{nano_of}
@@ -226,7 +226,7 @@ shown_moment : (t k time : ℕ) (date : Date) → k ≤ 9
 shown_moment t k time date small e within = grind (arith, shown_nanos, cut_nanos, mod-le)
 
 -- The parts that are printed represent the moment.
-pub shown_printed : (t : ℤ) (k time : ℕ) (date : Date) → k ≤ 9 → IsSecondOf date time t
+pub shown_printed : (t : ℤ) (k time : ℕ) (date : Date) → k ≤ 9 → IsDateAndSecondOf date time t
     → IsPrinted t k (fields_text (printed_fields date time (nano_of t) k))
 shown_printed (negsuc t) k time date small is = absurd (let whole = is.sum in let no : ⊥ = cc in no)
 shown_printed (pos t) k time date small is = record {
@@ -257,7 +257,7 @@ printed_some (negsuc t) k small h = absurd (omega (arith, ints, h.0))
 printed_some (pos t) k small h =
     let within : t < year_10000 = omega (arith, ints, h.1) in
     let date = date_of_is (t / 1_000_000_000 / 86_400) (omega arith) in
-    let is : IsSecondOf _ _ (pos t) = record {
+    let is : IsDateAndSecondOf _ _ (pos t) = record {
       date_exists = date.0;
       within_day = omega arith;
       sum = ap pos (omega (arith, date.1));

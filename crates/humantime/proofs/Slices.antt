@@ -1,9 +1,9 @@
 -- What a span borrows from its text.
-use Rattle.humantime.specs.Characters.{begins, ends, drop_while, take_while, is_whitespace, is_digit, is_letter, is_numeric, digits, is_point, byte_length, offset_of}
-use Rattle.humantime.specs.DurationErrors.{span_of, after_number, after_fraction, fraction_of, word_of, after_word, BeginsSpan}
+use Rattle.humantime.specs.Characters.{begins, ends, drop_while, take_while, is_whitespace, is_digit, is_letter, in_number, digits, is_point, byte_length, offset_of}
+use Rattle.humantime.specs.DurationErrors.{span_of, after_number, after_fraction, fraction_of, word_of, after_word, BeginsWithSpan}
 use Rattle.humantime.specs.DurationResults.{trimmed, fraction_slice, view_at, spelled, number_slice}
 use Rattle.humantime.specs.Durations.{HasOnly, SpelledSpan, SpellsFraction}
-use Rattle.humantime.specs.Items.{IsDigitSlice, SpanView, IsFractionView, IsSpanView, AreSpanViews}
+use Rattle.humantime.specs.Items.{IsDigitSlice, SpanView, IsFractionSlice, IsSpanView, AreSpanViews}
 use Rattle.std.proofs.Common.{append_assoc, ◌≡◌, ℕ, Bool, true, false, ◌&&◌, cond, eqb, List, [], ◌∷◌, ◌++◌, length, Some, None, refl, sym, ap, ◌∙◌, arith, IsUtf8, chars, Option, ap₂, ◌≢◌, subst, ◌<◌}
 use Rattle.std.proofs.lemmas.Bool.Decides.{nat_tests}
 use Rattle.std.proofs.lemmas.Grind.{common_steps}
@@ -13,7 +13,7 @@ use Rattle.std.specs.Char.{is_whitespace as std_is_whitespace}
 use Rattle.std.specs.Str.{trim_start, trim_end, skip_leading_whitespace, drop_trailing_whitespace}
 use Rattle.std.proofs.Math.Dec.{eqb-suc-zero}
 use Rattle.std.proofs.Math.Bool.{and-false}
-use Rattle.humantime.proofs.Characters.{whitespace_is, letter_not_whitespace, take_while-append, digit_not_whitespace, drop_while-append, digit_is_numeric, begins-append, ends-append, take_while-drop_while, take_while-only, begins_take_while}
+use Rattle.humantime.proofs.Characters.{whitespace_is, letter_not_whitespace, take_while-append, digit_not_whitespace, drop_while-append, digit_in_number, begins-append, ends-append, take_while-drop_while, take_while-only, begins_take_while}
 use Rattle.humantime.proofs.Spellings.{read_spelled, next_of, spells-append, written_here}
 
 -- ==== Slices without leading and trailing whitespace.
@@ -43,7 +43,7 @@ pub no_slice : (tail : List ℕ) → begins is_letter tail ≡ true → fraction
 unfolding is_letter is_point
 no_slice tail h = grind (arith, nat_tests)
 
-pub slice_after_point : (after tail : List ℕ) → HasOnly is_numeric after
+pub slice_after_point : (after tail : List ℕ) → HasOnly in_number after
     → begins is_letter tail ≡ true
     → fraction_slice (46 ∷ (after ++ tail)) ≡ Some (trimmed after)
 unfolding is_digit is_letter is_point
@@ -93,11 +93,11 @@ drop_tail (x ∷ y ∷ xs) tail o e =
 trimmed_is : (text slice : List ℕ) → IsDigitSlice text slice → trimmed text ≡ slice
 trimmed_is text slice h = grind (arith, digit_not_whitespace, drop_while-append, drop_tail)
 
-only_whitespace : (cs : List ℕ) → HasOnly is_numeric cs → digits cs ≡ [] → HasOnly is_whitespace cs
+only_whitespace : (cs : List ℕ) → HasOnly in_number cs → digits cs ≡ [] → HasOnly is_whitespace cs
 only_whitespace [] only none = tt
 only_whitespace (c ∷ cs) only none = grind (arith, (only_whitespace cs only.1))
 
-has_slice : (cs : List ℕ) → HasOnly is_numeric cs → digits cs ≢ []
+has_slice : (cs : List ℕ) → HasOnly in_number cs → digits cs ≢ []
     → (slice : List ℕ) × IsDigitSlice cs slice
 has_slice [] only some = absurd (some refl)
 has_slice (c ∷ cs) only some = by (is_digit c) (digits cs) refl refl (has_slice cs only.1)
@@ -148,12 +148,12 @@ has_slice (c ∷ cs) only some = by (is_digit c) (digits cs) refl refl (has_slic
           },
         )
 
-trimmed_slice : (cs : List ℕ) → HasOnly is_numeric cs → digits cs ≢ []
+trimmed_slice : (cs : List ℕ) → HasOnly in_number cs → digits cs ≢ []
     → IsDigitSlice cs (trimmed cs)
 trimmed_slice cs only some = let s = has_slice cs only some in rw (trimmed_is cs s.0 s.1) (s.1)
 
 -- The same of a text that begins with a digit.
-number_is_viewed : (cs : List ℕ) → HasOnly is_numeric cs → begins is_digit cs ≡ true
+number_is_viewed : (cs : List ℕ) → HasOnly in_number cs → begins is_digit cs ≡ true
     → IsDigitSlice cs (drop_trailing_whitespace cs)
 number_is_viewed cs only d =
     let same : trimmed cs ≡ drop_trailing_whitespace cs = grind (arith, digit_not_whitespace) in
@@ -161,7 +161,8 @@ number_is_viewed cs only d =
 
 -- ==== The view of a span is determined by the text and the span.
 
-fraction_found : (b tail : List ℕ) (o f : Option (List ℕ)) → SpellsFraction b o → IsFractionView b f
+fraction_found : (b tail : List ℕ) (o f : Option (List ℕ)) → SpellsFraction b o
+    → IsFractionSlice b f
     → begins is_letter tail ≡ true → f ≡ fraction_slice (b ++ tail)
 fraction_found b tail (Some ds) (Some slice) h k e =
     grind (arith, (slice_after_point h.0 tail h.2.0 e), (trimmed_is k.0 slice k.2))
@@ -226,41 +227,42 @@ one_view_each text p q m n spans xs ys d e o u w h k = grind arith
 -- ==== The view of the span at the start of a rest.
 
 fraction_is_viewed : (b tail : List ℕ) (o : Option (List ℕ)) → SpellsFraction b o
-    → begins is_letter tail ≡ true → IsFractionView b (fraction_slice (b ++ tail))
+    → begins is_letter tail ≡ true → IsFractionSlice b (fraction_slice (b ++ tail))
 fraction_is_viewed b tail o h k = grind (arith, no_slice, slice_after_point, trimmed_slice)
 
 pub next_bytes : (rest : List ℕ) → begins is_digit rest ≡ true
     → byte_length (after_word rest) < byte_length rest
 next_bytes rest b =
-    let some : 0 < length (take_while is_numeric rest) = grind (arith, digit_is_numeric) in
+    let some : 0 < length (take_while in_number rest) = grind (arith, digit_in_number) in
     grind (
       arith,
       common_steps,
-      (take_while-drop_while is_numeric rest),
-      (take_while-drop_while is_numeric),
+      (take_while-drop_while in_number rest),
+      (take_while-drop_while in_number),
       encodes-append,
       (take_while-drop_while is_letter (after_fraction rest)),
       length-le-encodes,
     )
 
 -- The slices of a well-formed span at the start of a rest tile it up to the next number.
-pub is_span_view : (text rest : List ℕ) → BeginsSpan rest
+pub is_span_view : (text rest : List ℕ) → BeginsWithSpan rest
     → IsSpanView text rest (span_of rest) (view_at text rest) (next_of rest)
 is_span_view text rest f =
     let w = written_here rest f in
     let h = rw (← w.1) at (spells-append w.0 [] (next_of rest) (span_of rest) w.2) in
     let after = h.whitespace ++ next_of rest in
     let r = read_spelled rest (next_of rest) (span_of rest) h in
-    let starts = begins_take_while is_digit is_numeric rest f.number.digit digit_is_numeric in
+    let starts = begins_take_while is_digit in_number rest f.number.digit digit_in_number in
     let number =
-    number_is_viewed (take_while is_numeric rest) (take_while-only is_numeric rest) starts in
+    number_is_viewed (take_while in_number rest) (take_while-only in_number rest) starts in
     let fraction =
     fraction_is_viewed h.fraction_text (word_of rest ++ after) (fraction_of rest) h.fraction
     (begins-append is_letter (word_of rest) after h.word.1 ∙ grind arith) in
     record {
       spelled = h;
       number = subst (λ (l : List ℕ). IsDigitSlice l (number_slice rest)) r.0 number;
-      fraction = subst (λ (l : List ℕ). IsFractionView h.fraction_text (fraction_slice l)) (sym r.1) fraction;
+      fraction = subst (λ (l : List ℕ). IsFractionSlice h.fraction_text (fraction_slice l))
+          (sym r.1) fraction;
       unit = refl;
       start = refl;
       end =

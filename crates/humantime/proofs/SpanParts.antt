@@ -1,5 +1,5 @@
 -- The parts of a span as they are read: number, fraction, word and end.
-use Rattle.humantime.specs.Characters.{begins, decimal_value, is_digit, is_numeric}
+use Rattle.humantime.specs.Characters.{begins, decimal_value, is_digit, in_number}
 use Rattle.humantime.specs.DurationErrors.{number_of, after_number, IsCharStartIn}
 use Rattle.humantime.specs.PrivateFunctions.{whitespace_len}
 use Rattle.humantime.specs.PrivateTypes.{HasDigits}
@@ -12,7 +12,7 @@ use Rattle.std.specs.Char.{digit_value, is_ascii_digit}
 use Rattle.std.specs.Str.Parse.{digits_value_after}
 use Rattle.humantime.specs.declared.duration.digits.Fraction.{Fraction}
 use Rattle.humantime.proofs.Offsets.{digit_at, whitespace_over, no_whitespace, ascii_at, no_bytes, tail_boundary, tail_place, tail_tail}
-use Rattle.humantime.proofs.Characters.{digit_is, digit_is_numeric, whitespace_is_numeric, digit_not_whitespace, digits_value-append, significant_shorter, significant_last, significant_zero, value_shifted, significant_long}
+use Rattle.humantime.proofs.Characters.{digit_is, digit_in_number, whitespace_in_number, digit_not_whitespace, digits_value-append, significant_shorter, significant_last, significant_zero, value_shifted, significant_long}
 
 -- ==== Parsing the digits at the start of a text, one by one.
 
@@ -26,19 +26,19 @@ pub read_digit : (text : List ℕ) (at : ℕ) → IsUtf8 text → IsCharStartIn 
     → is_ascii_digit (get_or text at 0) ≡ true
     → IsRead text at (at + 1) (get_or text at 0 ∷ [])
 read_digit text at u here d =
-    grind (arith, nat_tests, digit_is_numeric, (ascii_at text at u here), digit_is)
+    grind (arith, nat_tests, digit_in_number, (ascii_at text at u here), digit_is)
 
 pub read_whitespace : (text : List ℕ) (at next : ℕ) → IsUtf8 text → IsCharStartIn text at
     → 0 < whitespace_len (chars (drop at text))
     → next ≡ at + whitespace_len (chars (drop at text)) → IsRead text at next []
 read_whitespace text at next u here some n =
-    grind (arith, whitespace_is_numeric, digit_not_whitespace, (whitespace_over text at next u))
+    grind (arith, whitespace_in_number, digit_not_whitespace, (whitespace_over text at next u))
 
 -- There is neither a digit nor whitespace at this offset.
 pub stops_here : (text bytes : List ℕ) (at : ℕ) → IsUtf8 text → bytes ≡ text → at < length bytes
     → IsCharBoundary text at → is_ascii_digit (get_or bytes at 0) ≡ false
     → ¬ (0 < whitespace_len (chars (drop at text)))
-    → begins is_numeric (chars (drop at text)) ≡ false
+    → begins in_number (chars (drop at text)) ≡ false
 stops_here text bytes at u same some place d w =
     grind (arith, common_steps, nat_tests, digit_at, no_whitespace)
 

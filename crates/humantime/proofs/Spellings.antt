@@ -1,13 +1,13 @@
 -- The span at the start of a text, how it is spelled, and the error that stops it.
-use Rattle.humantime.specs.Characters.{is_whitespace, is_digit, is_letter, is_numeric, is_point, take_while, drop_while, begins, ends}
-use Rattle.humantime.specs.DurationErrors.{after_fraction, after_number, after_point, after_word, fraction_of, may_follow_span, number_of, span_of, Fault, BeginsSpan, IsStoppedWith, word_of}
-use Rattle.humantime.specs.Durations.{is_some_and, SpelledSpan, HasOnly, Spells, SpellsEach, IsLetters, SpellsFraction, scale_of_word}
-use Rattle.humantime.specs.Walks.{fault_at, may_be_word}
+use Rattle.humantime.specs.Characters.{is_whitespace, is_digit, is_letter, in_number, is_point, take_while, drop_while, begins, ends}
+use Rattle.humantime.specs.DurationErrors.{after_fraction, after_number, after_point, after_word, fraction_of, may_follow_span, number_of, span_of, Fault, BeginsWithSpan, IsStoppedWith, word_of}
+use Rattle.humantime.specs.Durations.{is_some_and, SpelledSpan, HasOnly, Spells, SpellsSpans, IsLetters, SpellsFraction, scale_of_word}
+use Rattle.humantime.specs.Walks.{fault_at, at_letter_or_end}
 use Rattle.std.proofs.Common.{◌==◌, arith, inl, ◌≡◌, ℕ, List, [], ◌∷◌, ◌++◌, sym, append_assoc, append-nil, subst, ◌≢◌, ◌⊎◌, ◌<◌, true, false, length, Option, Some, None, if◌then◌else◌, option_map, unwrap_or, IsSome, Decides}
 use Rattle.std.proofs.lemmas.Bool.Decides.{nat_tests}
 use Rattle.std.proofs.lemmas.Grind.{common_steps}
 use Rattle.std.specs.List.{AllByRecursion}
-use Rattle.humantime.proofs.Characters.{letter_not_whitespace, point_not_numeric, take_while-append, drop_while-append, drop_while_shorter, begins-append, ends_only, ends_other, ends-append, take_while-drop_while, digit_is_numeric, take_while-only, begins_take_while, begins-drop_while}
+use Rattle.humantime.proofs.Characters.{letter_not_whitespace, point_not_in_number, take_while-append, drop_while-append, drop_while_shorter, begins-append, ends_only, ends_other, ends-append, take_while-drop_while, digit_in_number, take_while-only, begins_take_while, begins-drop_while}
 
 -- ==== A spelling as a text of its own, and followed by more text.
 
@@ -31,11 +31,11 @@ pub spells-append : (text rest more : List ℕ) (s : SpelledSpan) → Spells tex
     → Spells (text ++ more) s (rest ++ more)
 spells-append text rest more s h = grind (arith, common_steps)
 
-pub spells_each-append : (a b : List ℕ) (ss ts : List SpelledSpan) → SpellsEach a ss
-    → SpellsEach b ts → SpellsEach (a ++ b) (ss ++ ts)
-spells_each-append a b [] ts h k = subst (λ (l : List ℕ). SpellsEach (l ++ b) ts) (sym h) k
-spells_each-append a b (s ∷ ss) ts h k =
-    (h.0 ++ b, spells-append a h.0 b s h.1, spells_each-append h.0 b ss ts h.2 k)
+pub spells_spans-append : (a b : List ℕ) (ss ts : List SpelledSpan) → SpellsSpans a ss
+    → SpellsSpans b ts → SpellsSpans (a ++ b) (ss ++ ts)
+spells_spans-append a b [] ts h k = subst (λ (l : List ℕ). SpellsSpans (l ++ b) ts) (sym h) k
+spells_spans-append a b (s ∷ ss) ts h k =
+    (h.0 ++ b, spells-append a h.0 b s h.1, spells_spans-append h.0 b ss ts h.2 k)
 
 -- If all elements of two lists have a property, so do those of the joined list.
 pub each-append : {A : Type 0} (P : A → Type 0) (xs ys : List A) → AllByRecursion P xs
@@ -56,7 +56,7 @@ IsSpelledAt rest s next =
 
 fraction_read : (b tail : List ℕ) (o : Option (List ℕ)) → SpellsFraction b o
     → begins is_letter tail ≡ true
-    → (begins is_numeric (b ++ tail) ≡ false) × (option_map number_of (after_point (b ++ tail)) ≡ o)
+    → (begins in_number (b ++ tail) ≡ false) × (option_map number_of (after_point (b ++ tail)) ≡ o)
     × (unwrap_or (option_map after_number (after_point (b ++ tail))) (b ++ tail) ≡ tail)
     × (o ≢ Some [])
 unfolding is_letter is_point is_digit
@@ -64,14 +64,14 @@ fraction_read b tail o h e = grind (
   arith,
   nat_tests,
   letter_not_whitespace,
-  point_not_numeric,
+  point_not_in_number,
   take_while-append,
   drop_while-append,
 )
 
 -- The number and the fraction of a span are parsed up to its word.
 pub read_spelled : (rest next : List ℕ) (s : SpelledSpan) (h : Spells rest s next)
-    → (take_while is_numeric rest ≡ h.number_text)
+    → (take_while in_number rest ≡ h.number_text)
     × (after_number rest ≡ h.fraction_text ++ (s.word ++ (h.whitespace ++ next)))
     × (fraction_of rest ≡ s.fraction) × (after_fraction rest ≡ s.word ++ (h.whitespace ++ next))
     × (s.fraction ≢ Some [])
@@ -119,8 +119,8 @@ pub next_smaller : (rest : List ℕ) → begins is_digit rest ≡ true
 next_smaller rest e = grind (
   arith,
   drop_while_shorter,
-  (drop_while_shorter is_numeric rest),
-  (drop_while_shorter is_numeric (after_number rest)),
+  (drop_while_shorter in_number rest),
+  (drop_while_shorter in_number (after_number rest)),
 )
 
 -- ==== The tests at the start of a span find the error that the table of first errors gives.
@@ -133,12 +133,13 @@ no_digits fraction = grind arith
 
 -- The text may begin a word.
 word_tells : (cs : List ℕ)
-    → Decides (may_be_word cs) ((take_while is_letter cs ≢ []) ⊎ (drop_while is_letter cs ≡ []))
+    → Decides (at_letter_or_end cs)
+    ((take_while is_letter cs ≢ []) ⊎ (drop_while is_letter cs ≡ []))
 word_tells cs = grind (arith, common_steps)
 
 -- Neither a digit nor whitespace follows the number and the fraction, so no span ends there without
 -- a word.
-no_word_ends : (cs : List ℕ) → begins is_numeric cs ≡ false → take_while is_letter cs ≡ []
+no_word_ends : (cs : List ℕ) → begins in_number cs ≡ false → take_while is_letter cs ≡ []
     → drop_while is_letter cs ≢ []
     → may_follow_span (drop_while is_letter cs) ≡ false
 no_word_ends cs e none more = grind arith
@@ -148,10 +149,10 @@ unfolding scale_of_word
 some_letters word h e = grind arith
 
 -- An error of the table is found by the tests.
-pub stops_at : (text front : List ℕ) (spans : List SpelledSpan) (rest : List ℕ) (e : Fault)
+pub stop_is_fault : (text front : List ℕ) (spans : List SpelledSpan) (rest : List ℕ) (e : Fault)
     → rest ≢ [] → IsStoppedWith text front spans rest e → fault_at text rest ≡ Some e
 unfolding fault_at scale_of_word
-stops_at text front spans rest e some stops =
+stop_is_fault text front spans rest e some stops =
     grind (
       arith,
       common_steps,
@@ -162,19 +163,19 @@ stops_at text front spans rest e some stops =
     )
 
 -- The tests find no error in a whole span.
-pub fine_goes : (text rest : List ℕ) → BeginsSpan rest → fault_at text rest ≡ None
+pub span_has_no_fault : (text rest : List ℕ) → BeginsWithSpan rest → fault_at text rest ≡ None
 unfolding fault_at
-fine_goes text rest s = grind (arith, common_steps, some_letters)
+span_has_no_fault text rest s = grind (arith, common_steps, some_letters)
 
 -- An error that the tests find is one of the table.
-pub wrong_stops : (text front : List ℕ) (spans : List SpelledSpan) (rest : List ℕ) (e : Fault)
+pub fault_is_stop : (text front : List ℕ) (spans : List SpelledSpan) (rest : List ℕ) (e : Fault)
     → rest ≢ [] → (begins is_digit rest ≡ false → (spans ≡ []) ⊎ (ends is_whitespace front ≡ true))
     → fault_at text rest ≡ Some e → IsStoppedWith text front spans rest e
 unfolding fault_at
-wrong_stops text front spans rest e some first found =
-    let bare : may_be_word (after_fraction rest) ≡ true
+fault_is_stop text front spans rest e some first found =
+    let bare : at_letter_or_end (after_fraction rest) ≡ true
     → (word_of rest ≢ []) ⊎ (after_word rest ≡ []) = (word_tells (after_fraction rest)).0 in
-    let word : word_of rest ≢ [] → may_be_word (after_fraction rest) ≡ true =
+    let word : word_of rest ≢ [] → at_letter_or_end (after_fraction rest) ≡ true =
     λ w. (word_tells (after_fraction rest)).1 (inl w) in
     grind (
       arith,
@@ -185,9 +186,9 @@ wrong_stops text front spans rest e some first found =
     )
 
 -- If the tests find no error, the rest begins with a whole span.
-pub is_fine : (text rest : List ℕ) → fault_at text rest ≡ None → BeginsSpan rest
+pub no_fault_is_span : (text rest : List ℕ) → fault_at text rest ≡ None → BeginsWithSpan rest
 unfolding fault_at
-is_fine text rest s =
+no_fault_is_span text rest s =
     grind (arith, (word_tells (after_fraction rest)), (some_letters (word_of rest)))
 
 -- ==== A rest that begins with a well-formed span is a spelling of that span followed by the text
@@ -196,15 +197,15 @@ is_fine text rest s =
 -- The point and the text after it up to the word, if a text begins with a point.
 abbrev pub point_and_digits : List ℕ → List ℕ
 point_and_digits [] = []
-point_and_digits (c ∷ cs) = if is_point c then c ∷ take_while is_numeric cs else []
+point_and_digits (c ∷ cs) = if is_point c then c ∷ take_while in_number cs else []
 
 -- A spelling of the span at the start of the rest ends in whitespace if no digit follows it.
-pub written_here : (rest : List ℕ) → BeginsSpan rest
+pub written_here : (rest : List ℕ) → BeginsWithSpan rest
     → (here : List ℕ) × (rest ≡ here ++ next_of rest) × Spells here (span_of rest) []
     × (next_of rest ≢ [] → begins is_digit (next_of rest) ≡ false → ends is_whitespace here ≡ true)
 unfolding is_point
 written_here rest h = (
-  take_while is_numeric rest ++ (point_and_digits (after_number rest)
+  take_while in_number rest ++ (point_and_digits (after_number rest)
       ++ (word_of rest ++ take_while is_whitespace (after_word rest))),
   grind (arith, common_steps, take_while-drop_while),
   grind (
@@ -212,7 +213,7 @@ written_here rest h = (
     append-nil,
     take_while-only,
     begins_take_while,
-    digit_is_numeric,
+    digit_in_number,
     nat_tests,
     (some_letters (word_of rest) h.unit),
     (h),

@@ -1,7 +1,7 @@
 -- The walk over a text finds the one list of spans that the text consists of, and its first error.
 use Rattle.humantime.specs.Characters.{begins, ends, drop_while, take_while, is_whitespace, bare_zero, is_digit}
-use Rattle.humantime.specs.DurationErrors.{Fault, OnlyWhitespace, Split, may_follow_span, span_of, NumberOverflow, BeginsSpan, HasFault}
-use Rattle.humantime.specs.Durations.{SpelledSpan, SpellsEach, SpellsAll, Reads, Spells, Formed, WithinLimits}
+use Rattle.humantime.specs.DurationErrors.{Fault, OnlyWhitespace, Split, may_follow_span, span_of, NumberOverflow, BeginsWithSpan, HasFault}
+use Rattle.humantime.specs.Durations.{SpelledSpan, SpellsSpans, SpellsFront, Reads, Spells, Formed, WithinLimits}
 use Rattle.humantime.specs.Items.{Items, EndsOrStops}
 use Rattle.humantime.specs.Walks.{Walk, walk, walk_from, fault_at, stop_at, items, walk_of}
 use Rattle.std.proofs.Common.{◌==◌, ◌≡◌, ◌≢◌, ℕ, zero, suc, ◌<◌, false, List, [], ◌∷◌, length, Some, None, refl, arith, ◌⊎◌, true, ◌++◌, map, Option, inl, append-nil, sym, ap, length-append, inr, append_assoc}
@@ -9,8 +9,8 @@ use Rattle.std.proofs.lemmas.Bool.Decides.{nat_tests}
 use Rattle.std.proofs.lemmas.Grind.{common_steps}
 use Rattle.std.proofs.lemmas.List.{length-map}
 use Rattle.std.specs.List.{AllByRecursion}
-use Rattle.humantime.proofs.Spellings.{next_of, next_smaller, IsSpelledAt, spelled_here, apart, fine_goes, stops_at, each-append, spells_each-append, is_fine, wrong_stops, written_here}
-use Rattle.humantime.proofs.Characters.{digit_is_numeric, digit_not_whitespace, drop_while-append, begins-append, ends-append, take_while-drop_while, take_while-only, begins-drop_while}
+use Rattle.humantime.proofs.Spellings.{next_of, next_smaller, IsSpelledAt, spelled_here, apart, span_has_no_fault, stop_is_fault, each-append, spells_spans-append, no_fault_is_span, fault_is_stop, written_here}
+use Rattle.humantime.proofs.Characters.{digit_in_number, digit_not_whitespace, drop_while-append, begins-append, ends-append, take_while-drop_while, take_while-only, begins-drop_while}
 use Rattle.humantime.proofs.Sums.{within_tells, within_or_beyond}
 
 -- ==== Induction over the walk over the spans of a text, whatever its bound on the number of spans.
@@ -32,7 +32,7 @@ by_count (suc n) text P s rest h =
       arith,
       (s.stop rest),
       (s.go rest),
-      (is_fine text rest),
+      (no_fault_is_span text rest),
       (next_smaller rest),
       (by_count n text P s (next_of rest)),
     )
@@ -46,7 +46,12 @@ enough : (n m : ℕ) (text rest : List ℕ) → length rest < n → length rest 
     → walk n text rest ≡ walk m text rest
 unfolding walk
 enough (suc n) (suc m) text rest h k =
-    grind (arith, (is_fine text rest), (next_smaller rest), (enough n m text (next_of rest)))
+    grind (
+      arith,
+      (no_fault_is_span text rest),
+      (next_smaller rest),
+      (enough n m text (next_of rest)),
+    )
 enough n m text rest h k = absurd (omega arith)
 
 pub walk-go : (text rest : List ℕ) → fault_at text rest ≡ None
@@ -55,7 +60,7 @@ pub walk-go : (text rest : List ℕ) → fault_at text rest ≡ None
       rest = (walk_from text (next_of rest)).rest;
     }
 unfolding walk
-walk-go text rest h = grind (arith, enough, (is_fine text rest), (next_smaller rest))
+walk-go text rest h = grind (arith, enough, (no_fault_is_span text rest), (next_smaller rest))
 
 -- ==== The walk over a text finds the spans that the text consists of.
 
@@ -63,25 +68,25 @@ walk-go text rest h = grind (arith, enough, (is_fine text rest), (next_smaller r
 abbrev pub Closes : List ℕ → List ℕ → Type 0
 Closes front rest = (may_follow_span rest ≡ true) ⊎ (ends is_whitespace front ≡ true)
 
-no_whitespace_before : (body rest : List ℕ) (ss : List SpelledSpan) → SpellsEach body ss
+no_whitespace_before : (body rest : List ℕ) (ss : List SpelledSpan) → SpellsSpans body ss
     → begins is_whitespace rest ≡ false → begins is_whitespace (body ++ rest) ≡ false
 no_whitespace_before body rest [] h e = grind arith
 no_whitespace_before body rest (s ∷ ss) h e = grind (arith, begins-append, digit_not_whitespace)
 
 -- Each spelling except for the last one ends before a digit.
-closes_here : (here more rest : List ℕ) (ss : List SpelledSpan) → SpellsEach more ss
+closes_here : (here more rest : List ℕ) (ss : List SpelledSpan) → SpellsSpans more ss
     → Closes (here ++ more) rest → Closes here (more ++ rest)
 closes_here here more rest [] h o = grind (arith, append-nil)
-closes_here here more rest (s ∷ ss) h o = grind (arith, begins-append, digit_is_numeric)
+closes_here here more rest (s ∷ ss) h o = grind (arith, begins-append, digit_in_number)
 
-closes_more : (xs ys rest : List ℕ) (ss : List SpelledSpan) → SpellsEach ys ss
+closes_more : (xs ys rest : List ℕ) (ss : List SpelledSpan) → SpellsSpans ys ss
     → (ss ≡ []) ⊎ Closes (xs ++ ys) rest → (ss ≡ []) ⊎ Closes ys rest
 closes_more xs ys rest [] h o = inl refl
 closes_more xs ys rest (s ∷ ss) h o = grind (arith, (ends-append is_whitespace xs ys))
 
 -- The first of these spans is the span at the start of the text.
 pub first_here : (body rest : List ℕ) (s : SpelledSpan) (ss : List SpelledSpan)
-    (h : SpellsEach body (s ∷ ss)) → Closes body rest → begins is_whitespace rest
+    (h : SpellsSpans body (s ∷ ss)) → Closes body rest → begins is_whitespace rest
     ≡ false → IsSpelledAt (body ++ rest) s (h.0 ++ rest)
 first_here body rest s ss h o e =
     let p = apart body h.0 s h.1 in
@@ -99,7 +104,7 @@ abbrev pub walked : List ℕ → List ℕ → List SpelledSpan × List ℕ
 walked text rest = let w = walk_from text rest in (map span_of w.starts, w.rest)
 
 -- The walk passes these spans and continues at the rest.
-through : (text body rest : List ℕ) (spans : List SpelledSpan) → SpellsEach body spans
+through : (text body rest : List ℕ) (spans : List SpelledSpan) → SpellsSpans body spans
     → AllByRecursion Formed spans → (spans ≡ []) ⊎ Closes body rest
     → begins is_whitespace rest ≡ false
     → walked text (body ++ rest) ≡ (spans ++ (walked text rest).0, (walked text rest).1)
@@ -114,7 +119,7 @@ through text body rest (s ∷ ss) h f o e =
       (first_here body rest s ss h),
       more,
       (walk-go text (body ++ rest)),
-      (fine_goes text (body ++ rest)),
+      (span_has_no_fault text (body ++ rest)),
     )
 
 -- The front of a split begins after the leading whitespace.
@@ -141,7 +146,7 @@ ends_walked : (text front rest : List ℕ) (spans : List SpelledSpan) (stop : Op
     × (stop_at (length spans == 0) text rest ≡ stop)
 unfolding walk fault_at
 ends_walked text front (c ∷ cs) spans (Some e) h =
-    grind (arith, (stops_at text front spans (c ∷ cs) e (λ n. cc) h))
+    grind (arith, (stop_is_fault text front spans (c ∷ cs) e (λ n. cc) h))
 ends_walked text front [] (x ∷ xs) stop h = grind (arith, nat_tests)
 ends_walked text front rest spans stop h = grind arith
 
@@ -161,12 +166,12 @@ items_walked text spans stop h =
 -- ==== A text is at most one list of spans, and the text `0` is none.
 
 -- A whole text is a front with nothing after it.
-pub split_whole : (text : List ℕ) (spans : List SpelledSpan) → SpellsAll text spans
+pub split_whole : (text : List ℕ) (spans : List SpelledSpan) → SpellsFront text spans
     → Split text text spans []
 split_whole text spans h =
     record { whole = sym (append-nil text); spelled = h; no_whitespace = refl }
 
-one_each : (body : List ℕ) (ss ts : List SpelledSpan) → SpellsEach body ss → SpellsEach body ts
+one_each : (body : List ℕ) (ss ts : List SpelledSpan) → SpellsSpans body ss → SpellsSpans body ts
     → ss ≡ ts
 one_each body [] [] h k = refl
 one_each body (s ∷ ss) (t ∷ ts) h k = grind (
@@ -211,14 +216,14 @@ pub record IsReadTo (text front : List ℕ) (spans : List SpelledSpan) (rest : L
   pub follows : rest ≢ [] → begins is_digit rest ≡ false
       → (spans ≡ []) ⊎ (ends is_whitespace front ≡ true)
 
-front_push : (front here : List ℕ) (ss : List SpelledSpan) (s : SpelledSpan) → SpellsAll front ss
-    → Spells here s [] → SpellsAll (front ++ here) (ss ++ s ∷ [])
+front_push : (front here : List ℕ) (ss : List SpelledSpan) (s : SpelledSpan) → SpellsFront front ss
+    → Spells here s [] → SpellsFront (front ++ here) (ss ++ s ∷ [])
 front_push front here ss s h p =
-    grind (arith, common_steps, (spells_each-append h.body here ss (s ∷ []) h.each ([], p, refl)))
+    grind (arith, common_steps, (spells_spans-append h.body here ss (s ∷ []) h.each ([], p, refl)))
 
 -- One more span is parsed.
 pub read_on : (text front rest : List ℕ) (spans : List SpelledSpan) → IsReadTo text front spans rest
-    → BeginsSpan rest
+    → BeginsWithSpan rest
     → (here : List ℕ) × IsReadTo text (front ++ here) (spans ++ span_of rest ∷ []) (next_of rest)
 read_on text front rest spans r f =
     let w = written_here rest f in
@@ -253,7 +258,7 @@ read_all text = by_walk text (ReadsOn text) (record {
   stop = λ rest e s front spans r.
       rw (append-nil spans) ((front, r), (λ some within big. absurd (big within)), (e, s));
   go = λ rest w s more front spans r.
-      let fine = is_fine text rest s in
+      let fine = no_fault_is_span text rest s in
       let k = read_on text front rest spans r fine in
       let i = rw append_assoc at (more (front ++ k.0) (spans ++ span_of rest ∷ []) k.1) in
       elim (within_or_beyond (spans ++ span_of rest ∷ []) k.1.formed) [
@@ -269,7 +274,7 @@ pub stops_here : (text front rest : List ℕ) (spans : List SpelledSpan) (e : Fa
 stops_here text front [] [] e r s = OnlyWhitespace refl refl refl
 stops_here text front [] (x ∷ xs) e r s = grind (arith, nat_tests)
 stops_here text front (c ∷ cs) spans e r s =
-    rw s (wrong_stops text front spans (c ∷ cs) e (λ n. cc) (r.follows (λ n. cc)) s)
+    rw s (fault_is_stop text front spans (c ∷ cs) e (λ n. cc) (r.follows (λ n. cc)) s)
 
 -- The items of a text, and the rest after them.
 pub items_found_at : (text : List ℕ) → let w = walk_of text in

@@ -4,7 +4,7 @@ use Rattle.humantime.specs.DurationErrors.{Fault, NumberOverflow, result_view, f
 use Rattle.humantime.specs.DurationResults.{item_views, duration_text, duration_answer, canonical_answer}
 use Rattle.humantime.specs.Durations.{SpelledSpan, additions, Formed, fits, Accepted, BareZero, SumOf}
 use Rattle.humantime.specs.Items.{AreItems, SpanView}
-use Rattle.humantime.specs.Laws.{ExactlyOne, HasOneOutcome, ItemsDecide, ItemsTile, PrintsAndReads, TextsTellApart, IsBounded, IsCanonicalAgain, OlderFormed, older_additions, AcceptedWithZeros, OlderZero, OlderSum, KeepsValueWithZeros, AreReordered, KeepsValueWithoutWhitespace, AddWhenJoined, KeepValueReordered, HasOneTimestamp, IsWeakAndMarked, MomentPrintsAndReads}
+use Rattle.humantime.specs.Laws.{ExactlyOne, HasOneOutcome, ItemsDecide, ItemsTile, PrintsAndReads, TextsTellApart, PrintsWithinBounds, IsCanonicalAgain, OlderFormed, older_additions, AcceptedWithZeros, OlderZero, OlderSum, KeepsValueWithZeros, AreReordered, KeepsValueWithoutWhitespace, AddWhenJoined, KeepValueReordered, HasOneTimestamp, StrictIsWeak, MomentPrintsAndReads}
 use Rattle.humantime.specs.PrintedDurations.{IsCanonicalText}
 use Rattle.humantime.specs.TimestampResults.{printed_text, weak_answer, strict_answer}
 use Rattle.humantime.specs.Timestamps.{IsWeak, IsStrict, weak_checks, strict_checks, MomentToPrint, cut, IsPrinted, IsPrintedWith, IsPrintable}
@@ -20,7 +20,7 @@ use Rattle.std.specs.List.{AllByRecursion}
 use Rattle.humantime.specs.declared.duration.error.DurationError.{DurationError}
 use Rattle.humantime.proofs.Items.{are_items, first_error_answers, front_tiled, one_span_view, text_tiled}
 use Rattle.humantime.proofs.Outcomes.{accepted_from_outcome, answer_accepts, answer_faults, exactly_one_outcome, items_decide_fault, items_decide_overflow, items_decide_value, one_list_of_items, outcome_accepted, outcome_fault, reordered_value, zero_or_spans}
-use Rattle.humantime.proofs.Characters.{significant_shorter, whole_part_kept, amount_kept}
+use Rattle.humantime.proofs.Characters.{significant_shorter, exact_fraction_kept, amount_kept}
 use Rattle.humantime.proofs.TextWalks.{not_zero, one_reading}
 pub use Rattle.humantime.proofs.PrintedTimestamps.{printed_some, stamps_in_order, weak_printable, strict_printable, places_of_bound}
 use Rattle.humantime.proofs.PrintedTimestamps.{text_displayed, printed_reads, one_text}
@@ -78,7 +78,7 @@ pub printed_durations_differ : (a b : ℕ) → a < duration_end → b < duration
 printed_durations_differ a b fits_a fits_b =
     search (rules, (texts_tell_apart a b (omega arith) (omega arith)), printed_is_canon)
 
-pub printed_bounds : (d : ℕ) → d < duration_end → IsBounded d
+pub printed_bounds : (d : ℕ) → d < duration_end → PrintsWithinBounds d
 printed_bounds d fits = record { length = canon_length d (omega arith); counts = counts_small d }
 
 pub canonical_again : (s : List ℕ) → IsCanonicalAgain s
@@ -113,7 +113,13 @@ still_within : (spans : List SpelledSpan) → AllByRecursion OlderFormed spans
     → AllByRecursion Formed spans × AllByRecursion (λ s. fits s ≡ true) spans
 still_within [] older = (tt, tt)
 still_within (s ∷ spans) older =
-    grind (arith, common_steps, significant_shorter, whole_part_kept, (still_within spans older.1))
+    grind (
+      arith,
+      common_steps,
+      significant_shorter,
+      exact_fraction_kept,
+      (still_within spans older.1),
+    )
 
 zeros_still_accepted : (text : List ℕ) (v : ℕ) → AcceptedWithZeros text v → Accepted text v
 zeros_still_accepted text v (OlderZero e z) = BareZero e z
@@ -166,7 +172,7 @@ pub one_stamp_outcome : (text : List ℕ)
     × HasOneTimestamp (strict_checks text) (IsStrict text) (strict_answer text)
 one_stamp_outcome text = (weak_outcome text, strict_outcome text)
 
-pub strict_is_weak : (text : List ℕ) → IsWeakAndMarked text
+pub strict_is_weak : (text : List ℕ) → StrictIsWeak text
 strict_is_weak text =
     let law = strict_moment_is_weak text in
     let in_weak = (weak_outcome text).value in

@@ -1,7 +1,7 @@
 -- A text of a timestamp has exactly one moment or one error.
-use Rattle.humantime.specs.Laws.{IsMarked, HasOneTimestamp}
+use Rattle.humantime.specs.Laws.{HasTAndZone, HasOneTimestamp}
 use Rattle.humantime.specs.TimestampResults.{moment_at, weak_answer, strict_answer, moment_or_error, IsWeakAnswer, IsStrictAnswer}
-use Rattle.humantime.specs.Timestamps.{Fields, fraction_text, fraction_digits, fields_text, IsWeak, zone_text, NoZone, date_time_text, IsStrict, IsWeakMoment, IsStrictMoment, has_two, has_digits, number_between, has_separator, has_punctuation, is_valid_date_time, has_point, weak_checks, first_failed, zone_of, fraction_part, ends_in_zone, has_t_and_zone, strict_checks}
+use Rattle.humantime.specs.Timestamps.{Fields, fraction_text, fraction_digits, fields_text, IsWeak, zone_text, NoZone, date_time_text, IsStrict, IsWeakMoment, IsStrictMoment, has_two_digits, has_digits, number_between, has_separator, has_punctuation, is_valid_date_time, may_be_fraction, weak_checks, first_failed, zone_of, fraction_part, ends_in_zone, has_t_and_zone, strict_checks}
 use Rattle.std.proofs.Common.{◌≡◌, ℕ, ◌+◌, ◌/◌, ◌%◌, ◌≤◌, List, length, drop, refl, arith, ◌++◌, rules, ◌≢◌, ap, ◌∙◌, true, slice_index, Option, None, ◌↔◌, ℤ, Bool, Result, le-leb}
 use Rattle.std.proofs.lemmas.Bool.Decides.{nat_tests}
 use Rattle.std.proofs.lemmas.Grind.{common_steps}
@@ -17,22 +17,23 @@ use Rattle.humantime.proofs.Checks.{digits_after_point, fields_of, all_passed, p
 -- The digits of a number at its position are parsed to that number.
 two_back : (bytes : List ℕ) (k n : ℕ) → k + 2 ≤ length bytes → slice_index bytes k ≡ 48 + n / 10
     → slice_index bytes (k + 1) ≡ 48 + n % 10 → n ≤ 99
-    → (has_two bytes k ≡ true) × (number_between bytes k (k + 2) ≡ n)
-unfolding has_two
+    → (has_two_digits bytes k ≡ true) × (number_between bytes k (k + 2) ≡ n)
+unfolding has_two_digits
 two_back bytes k n long first second h = grind (arith, number_of_two)
 
 year_back : (bytes : List ℕ) (n : ℕ) → 4 ≤ length bytes → n ≤ 9999
     → slice_index bytes 0 ≡ 48 + n / 1000 → slice_index bytes 1 ≡ 48 + n / 100 % 10
     → slice_index bytes 2 ≡ 48 + n / 10 % 10 → slice_index bytes 3 ≡ 48 + n % 10
-    → (has_two bytes 0 ≡ true) × (has_two bytes 2 ≡ true) × (number_between bytes 0 4 ≡ n)
-unfolding has_two
+    → (has_two_digits bytes 0 ≡ true) × (has_two_digits bytes 2 ≡ true)
+    × (number_between bytes 0 4 ≡ n)
+unfolding has_two_digits
 year_back bytes n long h first second third fourth = grind (arith, nat_tests, number_of_four)
 
 -- The bytes between the seconds and the zone.
-ending : (fraction : Option (List ℕ)) → (has_point (fraction_text fraction) ≡ true)
+ending : (fraction : Option (List ℕ)) → (may_be_fraction (fraction_text fraction) ≡ true)
     × (drop 1 (fraction_text fraction) ≡ fraction_digits fraction)
     × (digits_after_point (fraction_text fraction) ≡ fraction)
-unfolding has_point
+unfolding may_be_fraction
 ending fraction = grind arith
 
 written_passes : (f : Fields) → IsWeak (fields_text f) f
@@ -68,12 +69,13 @@ weak_fields bytes f w = rw w.text (written_passes f (rw w.text at w))
 
 -- ==== A text that fails no check represents the parts at their positions.
 
-pair_shown : (bytes : List ℕ) (k : ℕ) → k + 2 ≤ length bytes → has_two bytes k ≡ true
+pair_shown : (bytes : List ℕ) (k : ℕ) → k + 2 ≤ length bytes → has_two_digits bytes k ≡ true
     → (slice_index bytes k ≡ 48 + number_between bytes k (k + 2) / 10)
     × (slice_index bytes (k + 1) ≡ 48 + number_between bytes k (k + 2) % 10)
 pair_shown bytes k long h = grind (arith, has_two_from_test, number_of_two)
 
-year_shown : (bytes : List ℕ) → 4 ≤ length bytes → has_two bytes 0 ≡ true → has_two bytes 2 ≡ true
+year_shown : (bytes : List ℕ) → 4 ≤ length bytes → has_two_digits bytes 0 ≡ true
+    → has_two_digits bytes 2 ≡ true
     → (slice_index bytes 0 ≡ 48 + number_between bytes 0 4 / 1000)
     × (slice_index bytes 1 ≡ 48 + number_between bytes 0 4 / 100 % 10)
     × (slice_index bytes 2 ≡ 48 + number_between bytes 0 4 / 10 % 10)
@@ -82,7 +84,7 @@ year_shown bytes long century decade = search (rules, has_two_from_test, number_
 
 written_shown : (bytes : List ℕ) → first_failed (weak_checks bytes) ≡ None
     → bytes ≡ fields_text (fields_of bytes)
-unfolding has_punctuation has_separator has_point
+unfolding has_punctuation has_separator may_be_fraction
 written_shown bytes passed =
     let p = all_passed bytes passed in
     let pairs = pairs_from_test bytes p.2 in
@@ -119,7 +121,7 @@ zone_by_end bytes f w =
     grind (arith, common_steps, (ap zone_of w.text ∙ found))
 
 pub strict_is_marked_weak : (bytes : List ℕ) (f : Fields) → IsStrict bytes f
-    ↔ (IsWeak bytes f × IsMarked bytes)
+    ↔ (IsWeak bytes f × HasTAndZone bytes)
 strict_is_marked_weak bytes f = grind (arith, zone_by_end)
 
 -- The check of the strict form.
@@ -164,7 +166,7 @@ strict_told bytes r is = let one = strict_outcome bytes in
     rw is (record { value = one.value; error = one.error; answer = refl })
 
 pub strict_moment_is_weak : (bytes : List ℕ) (t : ℤ) → IsStrictMoment bytes t
-    ↔ (IsWeakMoment bytes t × IsMarked bytes)
+    ↔ (IsWeakMoment bytes t × HasTAndZone bytes)
 strict_moment_is_weak bytes t = grind (arith, (strict_is_marked_weak bytes))
 
 -- Both answers, opened together.

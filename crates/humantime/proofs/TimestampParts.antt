@@ -12,16 +12,16 @@ use Rattle.std.specs.List.{AllByRecursion, ends_with}
 use Rattle.std.specs.Prelude.{⊤}
 use Rattle.std.specs.Str.{all_ascii_digits, byte}
 use Rattle.std.specs.Str.Parse.{digits_value_after}
-use Rattle.humantime.specs.Timestamps.{ends_in, Letter_Z, ZeroOffset, has_t_and_zone, has_point, has_two, number_between, zone_of, before_zone, fraction_nanos, Fields, fraction_text, date_time_text, IsWeak, Zone, zone_text}
+use Rattle.humantime.specs.Timestamps.{ends_in, Letter_Z, ZeroOffset, has_t_and_zone, may_be_fraction, has_two_digits, number_between, zone_of, before_zone, fraction_nanos, Fields, fraction_text, date_time_text, IsWeak, Zone, zone_text}
 use Rattle.humantime.specs.declared.date.error.TimestampError.TheVariants.{InvalidDigit}
 use Rattle.humantime.proofs.Dates.{valid_from_test}
 
 -- ==== Numbers at their positions: the values of digits, and the ranges of date and time.
 
 -- The two digits at offset `k`.
-pub has_two_from_test : (bytes : List ℕ) (k : ℕ) → has_two bytes k ≡ true
+pub has_two_from_test : (bytes : List ℕ) (k : ℕ) → has_two_digits bytes k ≡ true
     → IsInRange 48 57 (slice_index bytes k) × IsInRange 48 57 (slice_index bytes (k + 1))
-unfolding has_two
+unfolding has_two_digits
 has_two_from_test bytes k h = grind (arith, nat_tests)
 
 -- The bytes from an offset on, one after the other.
@@ -35,13 +35,13 @@ last_two : (bytes : List ℕ) (k to : ℕ) → to ≡ k + 2 → to ≤ length by
     → slice_range bytes k to ≡ slice_index bytes k ∷ slice_index bytes (k + 1) ∷ []
 last_two bytes k to two long = grind (arith, (next_byte bytes k to), (next_byte bytes (k + 1) to))
 
-pub number_of_two : (bytes : List ℕ) (k : ℕ) → k + 2 ≤ length bytes → has_two bytes k ≡ true
+pub number_of_two : (bytes : List ℕ) (k : ℕ) → k + 2 ≤ length bytes → has_two_digits bytes k ≡ true
     → number_between bytes k (k + 2) ≡ (slice_index bytes k - 48) * 10 + (slice_index bytes (k + 1) - 48)
 unfolding number_between
 number_of_two bytes k long h = grind (arith, last_two, has_two_from_test, digit_value_digit)
 
-pub number_of_four : (bytes : List ℕ) → 4 ≤ length bytes → has_two bytes 0 ≡ true
-    → has_two bytes 2 ≡ true
+pub number_of_four : (bytes : List ℕ) → 4 ≤ length bytes → has_two_digits bytes 0 ≡ true
+    → has_two_digits bytes 2 ≡ true
     → number_between bytes 0 4 ≡ (slice_index bytes 0 - 48) * 1000 + (slice_index bytes 1 - 48)
     * 100 + (slice_index bytes 2 - 48) * 10 + (slice_index bytes 3 - 48)
 unfolding number_between
@@ -218,5 +218,5 @@ unfolding has_t_and_zone zone_of
 zones_open = tt
 
 unfoldable pub fractions_open : ⊤
-unfolding has_point fraction_nanos
+unfolding may_be_fraction fraction_nanos
 fractions_open = tt

@@ -8,9 +8,9 @@ abbrev pub BufferHolds : ℕ → MutBor (List ℕ) → (List ℕ → Type 0) →
 BufferHolds n buf P = follows_so (Array u8 n) (Array u8 n) buf.ghost_name none (λ _ _. ⊤) P
 
 -- If the result is `None`, the buffer is unchanged once nothing borrows from it.
-abbrev pub KeptAtNone : {A : Type 0} → ℕ → MutBor (List ℕ) → Option A → Fml
-KeptAtNone n buf answer = BufferHolds n buf (λ last. IfNone answer (last ≡ buf.now))
+abbrev pub UnchangedOnNone : {A : Type 0} → ℕ → MutBor (List ℕ) → Option A → Fml
+UnchangedOnNone n buf answer = BufferHolds n buf (λ last. IfNone answer (last ≡ buf.now))
 
 -- If the result is `Err`, the buffer is unchanged once nothing borrows from it.
-abbrev pub KeptAtErr : {A E : Type 0} → ℕ → MutBor (List ℕ) → Result A E → Fml
-KeptAtErr n buf answer = BufferHolds n buf (λ last. OnErr answer (last ≡ buf.now))
+abbrev pub UnchangedOnErr : {A E : Type 0} → ℕ → MutBor (List ℕ) → Result A E → Fml
+UnchangedOnErr n buf answer = BufferHolds n buf (λ last. OnErr answer (last ≡ buf.now))

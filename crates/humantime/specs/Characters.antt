@@ -74,8 +74,8 @@ abbrev pub bare_zero : List ℕ
 bare_zero = codes "0"
 
 -- Tests whether a character can be part of a number: a digit or whitespace.
-abbrev pub is_numeric : ℕ → Bool
-is_numeric c = is_digit c || is_whitespace c
+abbrev pub in_number : ℕ → Bool
+in_number c = is_digit c || is_whitespace c
 
 -- Returns the digits of a text, without its other characters.
 abbrev pub digits : List ℕ → List ℕ

@@ -3,8 +3,8 @@ use Rattle.std.specs.Prelude.{ℕ, Bool, true, false, List, [], ◌∷◌, Optio
 use Rattle.std.specs.Borrow.{Bor}
 use Rattle.std.specs.Str.{IsCharBoundary}
 use Rattle.std.specs.Result.{result_map_both}
-use Rattle.humantime.specs.Characters.{take_while, drop_while, begins, ends, decimal_value, is_letter, is_numeric, is_point, digits, is_whitespace, is_digit, byte_length, offset_of, bare_zero, micro_suffix}
-use Rattle.humantime.specs.Durations.{SpelledSpan, SpellsAll, scale_of_word, too_long, WithinLimits}
+use Rattle.humantime.specs.Characters.{take_while, drop_while, begins, ends, decimal_value, is_letter, in_number, is_point, digits, is_whitespace, is_digit, byte_length, offset_of, bare_zero, micro_suffix}
+use Rattle.humantime.specs.Durations.{SpelledSpan, SpellsFront, scale_of_word, digits_overflow, WithinLimits}
 use Rattle.humantime.specs.declared.duration.error.DurationError.{DurationError}
 use Rattle.humantime.specs.declared.duration.error.DurationError.TheVariants as errors
 
@@ -14,11 +14,11 @@ use Rattle.humantime.specs.declared.duration.error.DurationError.TheVariants as 
 
 -- Returns the digits of the number at the start of `rest`.
 abbrev pub number_of : List ℕ → List ℕ
-number_of rest = digits (take_while is_numeric rest)
+number_of rest = digits (take_while in_number rest)
 
 -- Returns what follows the number at the start of `rest`.
 abbrev pub after_number : List ℕ → List ℕ
-after_number rest = drop_while is_numeric rest
+after_number rest = drop_while in_number rest
 
 -- Returns what follows the point at the start of a text, if it begins with one.
 abbrev pub after_point : List ℕ → Option (List ℕ)
@@ -59,23 +59,23 @@ pub data Fault : Type 0 where
 -- whitespace.
 pub record Split (text front : List ℕ) (spans : List SpelledSpan) (rest : List ℕ) : Type 0 where
   pub whole : text ≡ front ++ rest
-  pub spelled : SpellsAll front spans
+  pub spelled : SpellsFront front spans
   pub no_whitespace : begins is_whitespace rest ≡ false
 
 -- The rest begins with a number, and neither the number nor its fraction is too long.
-pub record BeginsNumber (rest : List ℕ) : Type 0 where
+pub record BeginsWithNumber (rest : List ℕ) : Type 0 where
   pub digit : begins is_digit rest ≡ true
-  pub short : too_long (span_of rest) ≡ false
+  pub digits_fit : digits_overflow (span_of rest) ≡ false
 
 -- Tests whether a text may follow a span: it is empty, or begins with a digit or whitespace.
 abbrev pub may_follow_span : List ℕ → Bool
 may_follow_span [] = true
-may_follow_span (c ∷ cs) = is_numeric c
+may_follow_span (c ∷ cs) = in_number c
 
 -- The rest begins with a whole span: a number, a fraction, if any, that has digits, and the word of
 -- a unit, after which the span may end.
-pub record BeginsSpan (rest : List ℕ) : Type 0 where
-  pub number : BeginsNumber rest
+pub record BeginsWithSpan (rest : List ℕ) : Type 0 where
+  pub number : BeginsWithNumber rest
   pub digits : fraction_of rest ≢ Some []
   pub unit : IsSome (scale_of_word (word_of rest))
   pub ended : may_follow_span (after_word rest) ≡ true
@@ -90,36 +90,38 @@ pub data IsStoppedWith (text front : List ℕ) (spans : List SpelledSpan) (rest 
       → (spans ≡ []) ⊎ (ends is_whitespace front ≡ true)
       → e ≡ NumberExpected (offset_of text rest) → IsStoppedWith text front spans rest e
   -- The number or its fraction is too long, whatever follows.
-  TooLong : begins is_digit rest ≡ true → too_long (span_of rest) ≡ true → e ≡ NumberOverflow
+  DigitsOverflow : begins is_digit rest ≡ true → digits_overflow (span_of rest) ≡ true
+      → e ≡ NumberOverflow
       → IsStoppedWith text front spans rest e
   -- A character other than a point or a letter follows the number.
-  NoLetterAfterNumber : BeginsNumber rest → fraction_of rest ≡ None → word_of rest ≡ []
+  NoLetterAfterNumber : BeginsWithNumber rest → fraction_of rest ≡ None → word_of rest ≡ []
       → after_word rest ≢ []
       → e ≡ InvalidCharacter (offset_of text (after_word rest))
       → IsStoppedWith text front spans rest e
   -- A point has no digits, and then a letter follows or the text ends. The offset is that of the
   -- point.
-  PointWithoutDigits : BeginsNumber rest → fraction_of rest ≡ Some []
+  PointWithoutDigits : BeginsWithNumber rest → fraction_of rest ≡ Some []
       → (word_of rest ≢ []) ⊎ (after_word rest ≡ [])
       → e ≡ InvalidCharacter (offset_of text (after_number rest))
       → IsStoppedWith text front spans rest e
   -- A character other than a letter follows a point and its digits, if any.
-  NoLetterAfterPoint : BeginsNumber rest → IsSome (fraction_of rest) → word_of rest ≡ []
+  NoLetterAfterPoint : BeginsWithNumber rest → IsSome (fraction_of rest) → word_of rest ≡ []
       → after_word rest ≢ []
       → e ≡ InvalidCharacter (offset_of text (after_word rest))
       → IsStoppedWith text front spans rest e
   -- A character other than a digit or whitespace follows the letters, whether they are a unit or
   -- not.
-  WordNotEnded : BeginsNumber rest → fraction_of rest ≢ Some [] → word_of rest ≢ []
+  WordNotEnded : BeginsWithNumber rest → fraction_of rest ≢ Some [] → word_of rest ≢ []
       → may_follow_span (after_word rest) ≡ false
       → e ≡ InvalidCharacter (offset_of text (after_word rest))
       → IsStoppedWith text front spans rest e
   -- The text ends without a unit.
-  NoWord : BeginsNumber rest → fraction_of rest ≢ Some [] → word_of rest ≡ [] → after_word rest ≡ []
+  NoWord : BeginsWithNumber rest → fraction_of rest ≢ Some [] → word_of rest ≡ []
+      → after_word rest ≡ []
       → e ≡ UnknownUnit (byte_length text) (byte_length text) [] (decimal_value (number_of rest))
       → IsStoppedWith text front spans rest e
   -- The word is not a unit.
-  UnknownWord : BeginsNumber rest → fraction_of rest ≢ Some [] → word_of rest ≢ []
+  UnknownWord : BeginsWithNumber rest → fraction_of rest ≢ Some [] → word_of rest ≢ []
       → scale_of_word (word_of rest) ≡ None
       → may_follow_span (after_word rest) ≡ true
       → e ≡ UnknownUnit (offset_of text (after_fraction rest)) (offset_of text (after_word rest))
@@ -129,7 +131,7 @@ pub data IsStoppedWith (text front : List ℕ) (spans : List SpelledSpan) (rest 
 -- The tenth row of the table: the rest begins with a whole span, and the spans together with this
 -- one break a limit.
 pub record BreaksLimit (spans : List SpelledSpan) (rest : List ℕ) (e : Fault) : Type 0 where
-  pub span : BeginsSpan rest
+  pub span : BeginsWithSpan rest
   pub beyond : ¬ (WithinLimits (spans ++ span_of rest ∷ []))
   pub fault : e ≡ NumberOverflow
 
@@ -184,12 +186,12 @@ PointsInto bytes errors.NumberOverflow = ⊤
 PointsInto bytes errors.Empty = ⊤
 
 -- Returns the byte offset to which a fault points: 0 for `Empty`, and `None` for `NumberOverflow`.
-abbrev pub place_of : Fault → Option ℕ
-place_of (InvalidCharacter at) = Some at
-place_of (NumberExpected at) = Some at
-place_of (UnknownUnit start end unit value) = Some start
-place_of NumberOverflow = None
-place_of Empty = Some 0
+abbrev pub fault_offset : Fault → Option ℕ
+fault_offset (InvalidCharacter at) = Some at
+fault_offset (NumberExpected at) = Some at
+fault_offset (UnknownUnit start end unit value) = Some start
+fault_offset NumberOverflow = None
+fault_offset Empty = Some 0
 
 -- Returns the message for an unknown unit, or for a missing one if the unit is empty.
 abbrev pub unit_message : List ℕ → ℕ → List ℕ

@@ -2,12 +2,12 @@
 use Rattle.std.specs.Prelude.{ℕ, Bool, true, ◌&&◌, ◌==◌, length, List, Option, map, option_map, Result, Ok, Err, ◌≡◌, ◌↔◌, ◌/◌, ◌%◌, [], ◌∷◌, IfErr, bytes_eq, chars, if◌then◌else◌}
 use Rattle.std.specs.Result.{result_map_both}
 use Rattle.std.specs.Str.{drop_trailing_whitespace}
-use Rattle.humantime.specs.Characters.{take_while, drop_while, decimal_value, is_whitespace, is_numeric, digits, offset_of, bare_zero}
+use Rattle.humantime.specs.Characters.{take_while, drop_while, decimal_value, is_whitespace, in_number, digits, offset_of, bare_zero}
 use Rattle.humantime.specs.Durations.{SpelledSpan, Accepted}
 use Rattle.humantime.specs.DurationErrors.{number_of, after_number, after_point, word_of, after_word, Fault, result_view, PointsInto, HasFault}
 use Rattle.humantime.specs.Walks.{walk_from, stop_at, items, sum_spans}
 use Rattle.humantime.specs.Items.{SpanView, items_of}
-use Rattle.humantime.specs.PrintedDurations.{weights, suffixes, printed_counts, joined_by_space}
+use Rattle.humantime.specs.PrintedDurations.{weights, suffixes, printed_counts, joined_or_zero}
 use Rattle.humantime.specs.declared.duration.error.DurationError.{DurationError}
 
 -- ==== The items of a text, read from left to right, and what each borrows from it: the reference
@@ -19,13 +19,13 @@ trimmed cs = drop_trailing_whitespace (drop_while is_whitespace cs)
 
 -- The slice from the first to the last digit of the number at the start of `rest`.
 abbrev pub number_slice : List ℕ → List ℕ
-number_slice rest = drop_trailing_whitespace (take_while is_numeric rest)
+number_slice rest = drop_trailing_whitespace (take_while in_number rest)
 
 -- The slice from the first to the last digit of the fraction, if `after`, the text after the
 -- number, begins with a point.
 abbrev pub fraction_slice : List ℕ → Option (List ℕ)
 fraction_slice after =
-    option_map (λ digits. trimmed (take_while is_numeric digits)) (after_point after)
+    option_map (λ digits. trimmed (take_while in_number digits)) (after_point after)
 
 -- The slices, offsets and number of the span at the start of `rest`.
 abbrev pub view_at : List ℕ → List ℕ → SpanView
@@ -40,14 +40,14 @@ view_at text rest = record {
 
 -- The items from `rest` on: the views of the spans, followed by the error that stops them, if any.
 -- `first` is true if no span precedes `rest`.
-unfoldable pub left_at : Bool → List ℕ → List ℕ → List (Result SpanView Fault)
-left_at first text rest =
+unfoldable pub items_from : Bool → List ℕ → List ℕ → List (Result SpanView Fault)
+items_from first text rest =
     let w = walk_from text rest in
     items_of (map (view_at text) w.starts) (stop_at (first && length w.starts == 0) text w.rest)
 
 -- All items of a text.
 abbrev pub item_views : List ℕ → List (Result SpanView Fault)
-item_views text = left_at true text (drop_while is_whitespace text)
+item_views text = items_from true text (drop_while is_whitespace text)
 
 -- The span that has these slices.
 abbrev pub spelled : List ℕ → Option (List ℕ) → List ℕ → SpelledSpan
@@ -72,7 +72,7 @@ pub record IsDurationAnswer (bytes : List ℕ) (r : Result ℕ DurationError) : 
   pub value : (v : ℕ) → (result_view r ≡ Ok v) ↔ Accepted (chars bytes) v
   pub fault : (e : Fault) → (result_view r ≡ Err e) ↔ HasFault (chars bytes) e
   pub answer : result_view r ≡ duration_answer (chars bytes)
-  pub place : IfErr r (PointsInto bytes)
+  pub offsets : IfErr r (PointsInto bytes)
 
 -- Splits `d` into counts by division: each count is as large as possible, and the remainder is
 -- split by the weights that follow.
@@ -82,7 +82,7 @@ divided (w ∷ ws) d = d / w ∷ divided ws (d % w)
 
 -- Returns the printed text of `d` nanoseconds.
 unfoldable pub duration_text : ℕ → List ℕ
-duration_text d = joined_by_space (printed_counts (divided weights d) suffixes)
+duration_text d = joined_or_zero (printed_counts (divided weights d) suffixes)
 
 -- Returns the canonical text of the duration that a text denotes, or its first error.
 unfoldable pub canonical_answer : List ℕ → Result (List ℕ) Fault

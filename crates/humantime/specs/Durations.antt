@@ -7,27 +7,27 @@ pub use Rattle.humantime.specs.declared.unit.Quantity.{Quantity}
 pub use Rattle.humantime.specs.declared.unit.Quantity.TheVariants.{Nanos, Seconds}
 pub use Rattle.humantime.specs.declared.unit.Scale.{Scale}
 use Rattle.humantime.specs.Values.{nanos_per_micro, nanos_per_milli, nanos_per_second, seconds_per_minute, seconds_per_hour, seconds_per_day, seconds_per_week, seconds_per_month, seconds_per_year}
-use Rattle.humantime.specs.Characters.{micro_sign, greek_mu, begins, is_whitespace, is_letter, is_numeric, is_digit, digits, decimal_value, without_trailing_zeros, max_fraction_digits, u64_max, bare_zero}
+use Rattle.humantime.specs.Characters.{micro_sign, greek_mu, begins, is_whitespace, is_letter, in_number, is_digit, digits, decimal_value, without_trailing_zeros, max_fraction_digits, u64_max, bare_zero}
 
 -- ==== The words of the units, each with its scale: what one unit adds, and the quantity of which
 -- its fractions are parts, if it has any. A quantity is a number of nanoseconds or of seconds.
 
 -- The scale of the nanosecond, which has no fractions.
 abbrev pub whole_nanos : Scale
-whole_nanos = record { whole = Nanos 1; part = None }
+whole_nanos = record { one = Nanos 1; for_fractions = None }
 
 -- The scale of a unit of `size` nanoseconds, whose fractions are added as nanoseconds.
 abbrev pub in_nanos : ℕ → Scale
-in_nanos size = record { whole = Nanos size; part = Some (Nanos size) }
+in_nanos size = record { one = Nanos size; for_fractions = Some (Nanos size) }
 
 -- The scale of a unit of `size` seconds, whose fractions are added as nanoseconds.
 abbrev pub in_seconds_and_nanos : ℕ → Scale
 in_seconds_and_nanos size =
-    record { whole = Seconds size; part = Some (Nanos (size * nanos_per_second)) }
+    record { one = Seconds size; for_fractions = Some (Nanos (size * nanos_per_second)) }
 
 -- The scale of a unit of `size` seconds, whose fractions are added as seconds.
 abbrev pub in_seconds : ℕ → Scale
-in_seconds size = record { whole = Seconds size; part = Some (Seconds size) }
+in_seconds size = record { one = Seconds size; for_fractions = Some (Seconds size) }
 
 -- Pairs each of these words with the scale.
 abbrev unit_words : List (List ℕ) → Scale → List (List ℕ × Scale)
@@ -71,8 +71,8 @@ abbrev pub HasOnly : (ℕ → Bool) → List ℕ → Type 0
 HasOnly passes text = AllByRecursion (λ c. passes c ≡ true) text
 
 -- The text is digits and whitespace, and its digits are `ds`.
-abbrev pub HoldsDigits : List ℕ → List ℕ → Type 0
-HoldsDigits text ds = HasOnly is_numeric text × (digits text ≡ ds)
+abbrev pub SpellsDigits : List ℕ → List ℕ → Type 0
+SpellsDigits text ds = HasOnly in_number text × (digits text ≡ ds)
 
 -- The text is one or more letters.
 abbrev pub IsLetters : List ℕ → Type 0
@@ -83,7 +83,7 @@ IsLetters text = HasOnly is_letter text × (text ≢ [])
 abbrev pub SpellsFraction : List ℕ → Option (List ℕ) → Type 0
 SpellsFraction text None = text ≡ []
 SpellsFraction text (Some ds) =
-    (after : List ℕ) × (text ≡ byte "." ∷ after) × HoldsDigits after ds × (ds ≢ [])
+    (after : List ℕ) × (text ≡ byte "." ∷ after) × SpellsDigits after ds × (ds ≢ [])
 
 -- The text is the number of the span, which begins with a digit, its fraction, if any, its word and
 -- any whitespace, followed by `rest`.
@@ -93,27 +93,27 @@ pub record Spells (text : List ℕ) (span : SpelledSpan) (rest : List ℕ) : Typ
   pub whitespace : List ℕ
   pub whole : text ≡ number_text ++ (fraction_text ++ (span.word ++ (whitespace ++ rest)))
   pub starts : begins is_digit number_text ≡ true
-  pub number : HoldsDigits number_text span.number
+  pub number : SpellsDigits number_text span.number
   pub fraction : SpellsFraction fraction_text span.fraction
   pub word : IsLetters span.word
   pub only_whitespace : HasOnly is_whitespace whitespace
 
 -- The text is the spans, one after the other.
-abbrev pub SpellsEach : List ℕ → List SpelledSpan → Type 0
-SpellsEach text [] = text ≡ []
-SpellsEach text (span ∷ spans) = (rest : List ℕ) × Spells text span rest × SpellsEach rest spans
+abbrev pub SpellsSpans : List ℕ → List SpelledSpan → Type 0
+SpellsSpans text [] = text ≡ []
+SpellsSpans text (span ∷ spans) = (rest : List ℕ) × Spells text span rest × SpellsSpans rest spans
 
 -- The text is any whitespace followed by the spans.
-pub record SpellsAll (text : List ℕ) (spans : List SpelledSpan) : Type 0 where
+pub record SpellsFront (text : List ℕ) (spans : List SpelledSpan) : Type 0 where
   pub whitespace : List ℕ
   pub body : List ℕ
   pub whole : text ≡ whitespace ++ body
   pub only_whitespace : HasOnly is_whitespace whitespace
-  pub each : SpellsEach body spans
+  pub each : SpellsSpans body spans
 
 -- The text is one or more spans, after any whitespace.
 abbrev pub Reads : List ℕ → List SpelledSpan → Type 0
-Reads text spans = SpellsAll text spans × (spans ≢ [])
+Reads text spans = SpellsFront text spans × (spans ≢ [])
 
 -- ==== The sum of spans, their limits, and the texts that are accepted. A text is its list of
 -- characters.
@@ -133,30 +133,30 @@ abbrev pub total : List Quantity → ℕ
 total xs = sum_by quantity_nanos xs
 
 -- Returns a quantity of the same kind with another number.
-abbrev pub of_kind : Quantity → ℕ → Quantity
-of_kind (Nanos _) n = Nanos n
-of_kind (Seconds _) n = Seconds n
+abbrev pub with_size : Quantity → ℕ → Quantity
+with_size (Nanos _) n = Nanos n
+with_size (Seconds _) n = Seconds n
 
 -- Multiplies a quantity by `n`.
 abbrev pub times : ℕ → Quantity → Quantity
-times n x = of_kind x (n * size x)
+times n x = with_size x (n * size x)
 
 -- Returns the part of a quantity that the fraction digits `ds` denote without their trailing zeros,
 -- rounded down: 0 if no digits are left.
-abbrev pub part : List ℕ → Quantity → Quantity
-part ds x = let kept = without_trailing_zeros ds in
-    of_kind x (decimal_value kept * size x / 10 ^ length kept)
+abbrev pub fraction_times : List ℕ → Quantity → Quantity
+fraction_times ds x = let kept = without_trailing_zeros ds in
+    with_size x (decimal_value kept * size x / 10 ^ length kept)
 
 -- Returns what a fraction adds: nothing if there is none or its unit has no fractions.
 abbrev pub fraction_additions : Option Quantity → Option (List ℕ) → List Quantity
-fraction_additions (Some x) (Some ds) = part ds x ∷ []
+fraction_additions (Some x) (Some ds) = fraction_times ds x ∷ []
 fraction_additions _ _ = []
 
 -- Returns what a span adds if its unit has this scale: its number first, and then its fraction.
 abbrev pub additions_at : Option Scale → SpelledSpan → List Quantity
 additions_at None s = []
 additions_at (Some u) s =
-    times (decimal_value s.number) u.whole ∷ fraction_additions u.part s.fraction
+    times (decimal_value s.number) u.one ∷ fraction_additions u.for_fractions s.fraction
 
 -- Returns what a span adds.
 abbrev pub additions_of : SpelledSpan → List Quantity
@@ -190,35 +190,35 @@ has_too_many_digits fraction =
     is_some_and (λ ds. nat_lt max_fraction_digits (length (without_trailing_zeros ds))) fraction
 
 -- Tests whether the number does not fit a `u64`, or the fraction has too many digits.
-abbrev pub too_long : SpelledSpan → Bool
-too_long s = nat_lt u64_max (decimal_value s.number) || has_too_many_digits s.fraction
+abbrev pub digits_overflow : SpelledSpan → Bool
+digits_overflow s = nat_lt u64_max (decimal_value s.number) || has_too_many_digits s.fraction
 
--- The span is not `too_long`, and its word is a unit.
+-- The span is not `digits_overflow`, and its word is a unit.
 pub record Formed (s : SpelledSpan) : Type 0 where
-  pub short : too_long s ≡ false
+  pub digits_fit : digits_overflow s ≡ false
   pub word : IsSome (scale_of_word s.word)
 
 -- Tests whether `number / 10^count` of `n` is a whole number, and `number` times `n` fits a `u64`.
-abbrev pub is_whole_part : ℕ → ℕ → ℕ → Bool
-is_whole_part n number count = fits_u64 (number * n) && (number * n % 10 ^ count == 0)
+abbrev pub is_exact_part : ℕ → ℕ → ℕ → Bool
+is_exact_part n number count = fits_u64 (number * n) && (number * n % 10 ^ count == 0)
 
--- Tests whether the part of `n` that the fraction digits `ds` denote passes `is_whole_part`.
-abbrev pub has_whole_part : ℕ → List ℕ → Bool
-has_whole_part n ds = is_whole_part n (decimal_value ds) (length ds)
+-- Tests whether the part of `n` that the fraction digits `ds` denote passes `is_exact_part`.
+abbrev pub is_exact_fraction : ℕ → List ℕ → Bool
+is_exact_fraction n ds = is_exact_part n (decimal_value ds) (length ds)
 
--- Tests whether a fraction, if any, without its trailing zeros, passes `has_whole_part`, or is
+-- Tests whether a fraction, if any, without its trailing zeros, passes `is_exact_fraction`, or is
 -- empty if its unit has no fractions.
 abbrev pub fraction_fits : Option Quantity → Option (List ℕ) → Bool
 fraction_fits _ None = true
 fraction_fits None (Some ds) = length (without_trailing_zeros ds) == 0
-fraction_fits (Some x) (Some ds) = has_whole_part (size x) (without_trailing_zeros ds)
+fraction_fits (Some x) (Some ds) = is_exact_fraction (size x) (without_trailing_zeros ds)
 
 -- Tests whether the number times the size of the unit fits a `u64`, and the fraction fits. A word
 -- that is not a unit has no size.
 abbrev pub fits : SpelledSpan → Bool
 fits s =
-    is_none_or (λ u. fits_u64 (decimal_value s.number * size u.whole)
-    && fraction_fits u.part s.fraction) (scale_of_word s.word)
+    is_none_or (λ u. fits_u64 (decimal_value s.number * size u.one)
+    && fraction_fits u.for_fractions s.fraction) (scale_of_word s.word)
 
 -- Tests whether adding a quantity to `t` nanoseconds does not overflow. The whole seconds of the
 -- new sum must fit a `u64`. If nanoseconds are added, their number plus the nanoseconds of `t`

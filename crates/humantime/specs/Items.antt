@@ -42,16 +42,16 @@ pub record IsDigitSlice (text slice : List ℕ) : Type 0 where
 
 -- There is no slice, and the text is empty; or the text begins with a point, and the slice goes
 -- from the first to the last digit after it.
-abbrev pub IsFractionView : List ℕ → Option (List ℕ) → Type 0
-IsFractionView text None = text ≡ []
-IsFractionView text (Some slice) =
+abbrev pub IsFractionSlice : List ℕ → Option (List ℕ) → Type 0
+IsFractionSlice text None = text ≡ []
+IsFractionSlice text (Some slice) =
     (after : List ℕ) × (text ≡ byte "." ∷ after) × IsDigitSlice after slice
 
 -- The text from `here` on is the span followed by `next`, and `x` is the view of the span.
 pub record IsSpanView (text here : List ℕ) (s : SpelledSpan) (x : SpanView) (next : List ℕ) : Type 0 where
   pub spelled : Spells here s next
   pub number : IsDigitSlice spelled.number_text x.number
-  pub fraction : IsFractionView spelled.fraction_text x.fraction
+  pub fraction : IsFractionSlice spelled.fraction_text x.fraction
   pub unit : x.unit ≡ s.word
   pub start : x.start ≡ offset_of text here
   pub end : x.end ≡ offset_of text (spelled.whitespace ++ next)
@@ -72,7 +72,7 @@ items_of found stop = map Ok found ++ option_to_list (option_map Err stop)
 pub record AreItems (text : List ℕ) (listed : List (Result SpanView Fault)) : Type 0 where
   pub spans : List SpelledSpan
   pub stop : Option Fault
-  pub slices : List SpanView
+  pub views : List SpanView
   pub items : Items text spans stop
-  pub are : listed ≡ items_of slices stop
-  pub each : AreSpanViews text (drop_while is_whitespace text) spans slices items.rest
+  pub listed_are : listed ≡ items_of views stop
+  pub each : AreSpanViews text (drop_while is_whitespace text) spans views items.rest

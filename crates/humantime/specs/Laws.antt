@@ -7,11 +7,11 @@ use Rattle.std.specs.Str.{byte}
 use Rattle.humantime.specs.Calendar.{IsDate, day_of}
 use Rattle.humantime.specs.declared.calendar.Date.{Date}
 use Rattle.humantime.specs.Characters.{is_whitespace, bare_zero, is_point, decimal_value, max_fraction_digits, u64_max}
-use Rattle.humantime.specs.Durations.{SpelledSpan, Reads, additions, AllHaveRoom, WithinLimits, Accepted, HasOnly, value, Quantity, Scale, scale_of_word, size, of_kind, times, total, has_whole_part}
+use Rattle.humantime.specs.Durations.{SpelledSpan, Reads, additions, AllHaveRoom, WithinLimits, Accepted, HasOnly, value, Quantity, Scale, scale_of_word, size, with_size, times, total, is_exact_fraction}
 use Rattle.humantime.specs.DurationErrors.{NumberOverflow, HasFault, Fault}
 use Rattle.humantime.specs.DurationResults.{duration_answer, duration_text, canonical_answer}
 use Rattle.humantime.specs.Items.{SpanView, Items, AreItems}
-use Rattle.humantime.specs.PrintedDurations.{AreCounts, IsCanonicalText, IsCanonicalOf}
+use Rattle.humantime.specs.PrintedDurations.{AreCounts, IsCanonicalText, CanonicalizesTo}
 use Rattle.humantime.specs.declared.date.error.TimestampError.{TimestampError}
 use Rattle.humantime.specs.Timestamps.{Fields, IsWeak, IsStrict, moment_of, IsWeakMoment, IsStrictMoment, cut, IsPrinted, IsPrintable, ends_in_zone, first_failed}
 use Rattle.humantime.specs.TimestampResults.{strict_answer, weak_answer, moment_text}
@@ -193,7 +193,7 @@ pub record TextsTellApart (a b : ℕ) : Type 0 where
   pub text : (duration_text a ≡ duration_text b) ↔ (a ≡ b)
 
 -- A canonical text has at most 64 bytes, and counts at most 11 months and 30 days.
-pub record IsBounded (d : ℕ) : Type 0 where
+pub record PrintsWithinBounds (d : ℕ) : Type 0 where
   pub length : (bytes : List ℕ) → IsCanonicalText d bytes → length bytes ≤ 64
   pub counts : (counts : List ℕ) → AreCounts d counts
       → ((slice_index counts 1 ≤ 11) × (slice_index counts 2 ≤ 30))
@@ -202,19 +202,19 @@ pub record IsBounded (d : ℕ) : Type 0 where
 -- `canonical` returns it, or the fault.
 pub record IsCanonicalAgain (s : List ℕ) : Type 0 where
   -- An accepted text has a canonical text.
-  pub some : (v : ℕ) → Accepted (chars s) v → (printed : List ℕ) × IsCanonicalOf s printed
+  pub some : (v : ℕ) → Accepted (chars s) v → (printed : List ℕ) × CanonicalizesTo s printed
   -- The canonical text is accepted with the same value.
-  pub value : (v : ℕ) (printed : List ℕ) → Accepted (chars s) v → IsCanonicalOf s printed
+  pub value : (v : ℕ) (printed : List ℕ) → Accepted (chars s) v → CanonicalizesTo s printed
       → Accepted (chars printed) v
   -- It is its own canonical text, and has no other.
-  pub again : (printed again : List ℕ) → IsCanonicalOf s printed
-      → (IsCanonicalOf printed again ↔ (again ≡ printed))
+  pub again : (printed again : List ℕ) → CanonicalizesTo s printed
+      → (CanonicalizesTo printed again ↔ (again ≡ printed))
   -- The same two properties hold of the results of the calls.
   pub answer : (t : List ℕ) → canonical_answer (chars s) ≡ Ok t → canonical_answer (chars t) ≡ Ok t
   pub reads : (v : ℕ) (t : List ℕ) → duration_answer (chars s) ≡ Ok v
       → canonical_answer (chars s) ≡ Ok t → duration_answer (chars t) ≡ Ok v
   -- The result is the canonical text, or the first error.
-  pub text : (t : List ℕ) → (canonical_answer (chars s) ≡ Ok t) ↔ IsCanonicalOf s t
+  pub text : (t : List ℕ) → (canonical_answer (chars s) ≡ Ok t) ↔ CanonicalizesTo s t
   pub fault : (e : Fault) → (canonical_answer (chars s) ≡ Err e) ↔ HasFault (chars s) e
 
 -- ==== The texts that were accepted while trailing zeros of a fraction counted towards its limits.
@@ -227,7 +227,7 @@ abbrev pub OlderFraction : Option Quantity → Option (List ℕ) → Type 0
 OlderFraction _ None = ⊤
 OlderFraction None (Some ds) = ⊥
 OlderFraction (Some x) (Some ds) =
-    (length ds ≤ max_fraction_digits) × (has_whole_part (size x) ds ≡ true)
+    (length ds ≤ max_fraction_digits) × (is_exact_fraction (size x) ds ≡ true)
 
 -- The word was a unit, the number and its product with the size of the unit fit a `u64`, and the
 -- fraction was within its limits with all of its digits.
@@ -235,13 +235,13 @@ pub record OlderFormed (s : SpelledSpan) : Type 0 where
   pub unit : Scale
   pub word : scale_of_word s.word ≡ Some unit
   pub number : decimal_value s.number ≤ u64_max
-  pub product : decimal_value s.number * size unit.whole ≤ u64_max
-  pub fraction : OlderFraction unit.part s.fraction
+  pub product : decimal_value s.number * size unit.one ≤ u64_max
+  pub fraction : OlderFraction unit.for_fractions s.fraction
 
 -- Returns the part of a quantity that all of the fraction digits `ds` denote, trailing zeros
 -- included, rounded down.
 abbrev pub older_part : List ℕ → Quantity → Quantity
-older_part ds x = of_kind x (decimal_value ds * size x / 10 ^ length ds)
+older_part ds x = with_size x (decimal_value ds * size x / 10 ^ length ds)
 
 -- Returns what a fraction added: nothing if there was none or its unit had no fractions.
 abbrev pub older_fraction_additions : Option Quantity → Option (List ℕ) → List Quantity
@@ -252,7 +252,7 @@ older_fraction_additions _ _ = []
 abbrev pub older_additions_at : Option Scale → SpelledSpan → List Quantity
 older_additions_at None s = []
 older_additions_at (Some u) s =
-    times (decimal_value s.number) u.whole ∷ older_fraction_additions u.part s.fraction
+    times (decimal_value s.number) u.one ∷ older_fraction_additions u.for_fractions s.fraction
 
 -- Returns what a span added.
 abbrev pub older_additions_of : SpelledSpan → List Quantity
@@ -287,8 +287,8 @@ pub record KeepsValueWithZeros (text : List ℕ) : Type 0 where
 -- ==== The laws of timestamps. A text is its list of bytes.
 
 -- A `T` separates the date from the time, and the text ends in `Z` or `+00:00`.
-abbrev pub IsMarked : List ℕ → Type 0
-IsMarked b = (slice_index b 10 ≡ byte "T") × IsTrue (ends_in_zone b)
+abbrev pub HasTAndZone : List ℕ → Type 0
+HasTAndZone b = (slice_index b 10 ≡ byte "T") × IsTrue (ends_in_zone b)
 
 -- The printed texts of two moments with the same number of digits compare, byte by byte, like the
 -- moments rounded down to these digits.
@@ -312,19 +312,19 @@ pub record HasOneTimestamp (checks : List (Bool × TimestampError)) (Represents 
   pub error : (e : TimestampError) → (answer ≡ Err e) ↔ (first_failed checks ≡ Some e)
 
 -- The strict form is the weak form with a `T` and a zone.
-pub record IsWeakAndMarked (text : List ℕ) : Type 0 where
+pub record StrictIsWeak (text : List ℕ) : Type 0 where
   -- A text represents parts in the strict form if and only if it does so in the weak form and has a
   -- `T` and a zone.
-  pub parts : (f : Fields) → IsStrict text f ↔ (IsWeak text f × IsMarked text)
+  pub parts : (f : Fields) → IsStrict text f ↔ (IsWeak text f × HasTAndZone text)
   -- The same holds of a moment.
-  pub moment : (t : ℤ) → IsStrictMoment text t ↔ (IsWeakMoment text t × IsMarked text)
+  pub moment : (t : ℤ) → IsStrictMoment text t ↔ (IsWeakMoment text t × HasTAndZone text)
   -- A text that is parsed in the strict form is also parsed in the weak form, and has a `T` and a
   -- zone.
   pub weak : (t : ℤ) → strict_answer text ≡ Ok t → weak_answer text ≡ Ok t
-  pub marked : (t : ℤ) → strict_answer text ≡ Ok t → IsMarked text
+  pub marked : (t : ℤ) → strict_answer text ≡ Ok t → HasTAndZone text
   -- A text that is parsed in the weak form, and has a `T` and a zone, is also parsed in the strict
   -- form.
-  pub strict : (t : ℤ) → weak_answer text ≡ Ok t → IsMarked text → strict_answer text ≡ Ok t
+  pub strict : (t : ℤ) → weak_answer text ≡ Ok t → HasTAndZone text → strict_answer text ≡ Ok t
 
 -- A moment in 1970 to 9999 has exactly one printed text with `k` digits. `Display` writes it, and
 -- it parses to the moment rounded down.

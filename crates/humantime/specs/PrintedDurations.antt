@@ -53,19 +53,19 @@ printed_counts counts ends =
     map (λ c. printed_count c.0 c.1) (filter (λ c. nat_lt 0 c.0) (zip counts ends))
 
 -- Joins texts with single spaces, and returns `0s` if there are none.
-abbrev pub joined_by_space : List (List ℕ) → List ℕ
-joined_by_space [] = codes "0s"
-joined_by_space ps = join_with_byte (byte " ") ps
+abbrev pub joined_or_zero : List (List ℕ) → List ℕ
+joined_or_zero [] = codes "0s"
+joined_or_zero ps = join_with_byte (byte " ") ps
 
 -- The canonical text of `d` nanoseconds is its nonzero counts with suffixes, joined with single
 -- spaces, or `0s`.
 pub record IsCanonicalText (d : ℕ) (bytes : List ℕ) : Type 0 where
   pub counts : List ℕ
   pub are : AreCounts d counts
-  pub shown : bytes ≡ joined_by_space (printed_counts counts suffixes)
+  pub shown : bytes ≡ joined_or_zero (printed_counts counts suffixes)
 
 -- The first text is accepted, and the second is the canonical text of its duration.
-pub record IsCanonicalOf (bytes printed : List ℕ) : Type 0 where
+pub record CanonicalizesTo (bytes printed : List ℕ) : Type 0 where
   pub duration : ℕ
   pub accepted : Accepted (chars bytes) duration
   pub canon : IsCanonicalText duration printed

@@ -10,8 +10,8 @@ use Rattle.std.specs.Char.{len_utf8}
 use Rattle.humantime.specs.declared.duration.error.DurationError.{DurationError}
 use Rattle.humantime.specs.declared.duration.span.Number.{Number}
 use Rattle.humantime.specs.declared.duration.span.Span.{Span}
-use Rattle.humantime.specs.Characters.{begins, take_while, decimal_value, is_digit, is_numeric, is_whitespace, u64_max}
-use Rattle.humantime.specs.Durations.{SpelledSpan, has_too_many_digits, too_long, Quantity, Nanos, Seconds, Scale, words, size, of_kind, is_whole_part}
+use Rattle.humantime.specs.Characters.{begins, take_while, decimal_value, is_digit, in_number, is_whitespace, u64_max}
+use Rattle.humantime.specs.Durations.{SpelledSpan, has_too_many_digits, digits_overflow, Quantity, Nanos, Seconds, Scale, words, size, with_size, is_exact_part}
 use Rattle.humantime.specs.DurationErrors.{fault_of, number_of, after_number, after_point, after_fraction, after_word, span_of, may_follow_span, Fault}
 use Rattle.humantime.specs.Prelude.{IsDate, SpanView, day_of, span_view}
 use Rattle.humantime.specs.DurationResults.{spelled, view_at}
@@ -22,7 +22,7 @@ use Rattle.humantime.specs.declared.date.error.TimestampError.{TimestampError}
 use Rattle.humantime.specs.declared.date.error.TimestampError.TheVariants.{InvalidDigit, InvalidFormat}
 use Rattle.humantime.specs.Values.{seconds_per_day, second_of}
 use Rattle.humantime.specs.declared.date.parse.DateTime.{DateTime}
-use Rattle.humantime.specs.Timestamps.{DateAndTime, fraction_nanos, has_punctuation, has_digits, has_point}
+use Rattle.humantime.specs.Timestamps.{DateAndTime, fraction_nanos, has_punctuation, has_digits, may_be_fraction}
 use Rattle.humantime.specs.declared.duration.print.Writer.{Writer}
 use Rattle.humantime.specs.PrintedDurations.{Suffix, printed_counts}
 
@@ -35,11 +35,11 @@ whole_seconds (Seconds n) = n
 
 -- Returns those of the words whose units are below this number of seconds.
 abbrev pub words_below : ℕ → List (List ℕ × Scale) → List (List ℕ × Scale)
-words_below seconds ws = filter (λ w. ltb (whole_seconds w.1.whole) seconds) ws
+words_below seconds ws = filter (λ w. ltb (whole_seconds w.1.one) seconds) ws
 
 -- Returns the words of the units of at least this number of seconds.
 abbrev pub words_from : ℕ → List (List ℕ × Scale)
-words_from seconds = filter (λ w. not (ltb (whole_seconds w.1.whole) seconds)) words
+words_from seconds = filter (λ w. not (ltb (whole_seconds w.1.one) seconds)) words
 
 -- Returns the scale of a word, if it is a unit of at least this number of seconds.
 unfoldable pub scale_from : ℕ → List ℕ → Option Scale
@@ -71,36 +71,36 @@ number_view n = (chars n.text.now, option_map (λ f. chars f.1.now) n.fraction)
 abbrev pub read_number : List ℕ → Option ((List ℕ × Option (List ℕ)) × List ℕ)
 read_number text =
     if nat_lt u64_max (decimal_value (number_of text)) then None
-    else Some ((take_while is_numeric text, None), after_number text)
+    else Some ((take_while in_number text, None), after_number text)
 
 -- Reads the digits of a fraction at the start of a text, if any. More than 19 before the trailing
 -- zeros are too long.
 abbrev pub read_fraction : List ℕ → Option (((ℕ × ℕ × ℕ) × List ℕ) × List ℕ)
 read_fraction text =
     if has_too_many_digits (Some (number_of text)) then None
-    else Some ((counted (number_of text), take_while is_numeric text), after_number text)
+    else Some ((counted (number_of text), take_while in_number text), after_number text)
 
 -- Returns a text without its first character if that is whitespace.
-abbrev pub after_space : List ℕ → List ℕ
-after_space [] = []
-after_space (c ∷ cs) = if is_whitespace c then cs else c ∷ cs
+abbrev pub after_one_whitespace : List ℕ → List ℕ
+after_one_whitespace [] = []
+after_one_whitespace (c ∷ cs) = if is_whitespace c then cs else c ∷ cs
 
 -- Reads up to one whitespace character after a word. A character other than a digit or whitespace
 -- must not follow a word.
 abbrev pub skip_span_end : List ℕ → Option (List ℕ)
-skip_span_end text = if may_follow_span text then Some (after_space text) else None
+skip_span_end text = if may_follow_span text then Some (after_one_whitespace text) else None
 
 -- Reads the span at the start of `rest`.
 abbrev pub read_span : List ℕ → List ℕ → Result (SpanView × List ℕ) Fault
 read_span text rest = elim (fault_at text rest) [
-  | None ↦ Ok (view_at text rest, after_space (after_word rest))
+  | None ↦ Ok (view_at text rest, after_one_whitespace (after_word rest))
   | Some e ↦ Err e
 ]
 
 -- The view of a span that was read and the characters of the rest, or the fault of the error.
-abbrev pub span_result : Result (Span × Bor (List ℕ)) DurationError
+abbrev pub read_span_view : Result (Span × Bor (List ℕ)) DurationError
     → Result (SpanView × List ℕ) Fault
-span_result r = result_map_both (λ x. (span_view x.0, chars x.1.now)) fault_of r
+read_span_view r = result_map_both (λ x. (span_view x.0, chars x.1.now)) fault_of r
 
 -- Returns the span that the slices of a `Span` hold.
 abbrev pub spelled_in : Span → SpelledSpan
@@ -110,11 +110,11 @@ spelled_in s = let x = span_view s in spelled x.number x.fraction x.unit
 -- these are their texts, neither is too long, and no point is bare.
 pub record IsNumberAt (rest : List ℕ) (number : Number) (after : List ℕ) : Type 0 where
   pub digit : begins is_digit (chars rest) ≡ true
-  pub short : too_long (span_of (chars rest)) ≡ false
-  pub pointed : has_bare_point (chars rest) ≡ false
+  pub digits_fit : digits_overflow (span_of (chars rest)) ≡ false
+  pub no_bare_point : has_bare_point (chars rest) ≡ false
   pub texts : number_view number ≡ (
-    take_while is_numeric (chars rest),
-    option_map (take_while is_numeric) (after_point (after_number (chars rest))),
+    take_while in_number (chars rest),
+    option_map (take_while in_number) (after_point (after_number (chars rest))),
   )
   pub after_is : chars after ≡ after_fraction (chars rest)
   pub tail : IsTail rest after
@@ -123,10 +123,10 @@ pub record IsNumberAt (rest : List ℕ) (number : Number) (after : List ℕ) : T
 
 -- Returns the sum of `t` and `number / 10^count` of a quantity, or `None` if that is not a whole
 -- number or on overflow. If the unit has no fractions, there must be no digits.
-abbrev pub add_part : ℕ → Option Quantity → ℕ → ℕ → Option ℕ
-add_part t None number count = if count == 0 then Some t else None
-add_part t (Some x) number count =
-    if is_whole_part (size x) number count then add t (of_kind x (number * size x / 10 ^ count))
+abbrev pub add_fraction : ℕ → Option Quantity → ℕ → ℕ → Option ℕ
+add_fraction t None number count = if count == 0 then Some t else None
+add_fraction t (Some x) number count =
+    if is_exact_part (size x) number count then add t (with_size x (number * size x / 10 ^ count))
     else None
 
 -- ==== The results of private functions that parse and print timestamps.
@@ -145,10 +145,11 @@ digits_answer ds = if all_ascii_digits ds then Ok (fraction_nanos ds) else Err I
 
 -- Returns the nanoseconds of the bytes between the seconds and the zone, or their error.
 abbrev pub fraction_answer : List ℕ → Result ℕ TimestampError
-fraction_answer part = if has_point part then digits_answer (drop 1 part) else Err InvalidFormat
+fraction_answer part = if may_be_fraction part then digits_answer (drop 1 part)
+    else Err InvalidFormat
 
 -- The moment `t` is on this date, `time` whole seconds after midnight.
-pub record IsSecondOf (date : Date) (time : ℕ) (t : ℤ) : Type 0 where
+pub record IsDateAndSecondOf (date : Date) (time : ℕ) (t : ℤ) : Type 0 where
   pub date_exists : IsDate date
   pub within_day : time < seconds_per_day
   pub sum : pos (day_of date * seconds_per_day + time) ≡ second_of t

@@ -32,5 +32,5 @@ pub record IsNumberRead (text : List ℕ) (value : ℕ) (fraction : Option (Frac
 pub record IsTail (text rest : List ℕ) : Type 0 where
   pub shorter : length rest ≤ length text
   pub ends : rest ≡ drop (length text - length rest) text
-  pub utf8 : IsUtf8 rest
-  pub whole : IsUtf8 text
+  pub rest_utf8 : IsUtf8 rest
+  pub text_utf8 : IsUtf8 text

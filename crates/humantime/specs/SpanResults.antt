@@ -9,7 +9,7 @@ use Rattle.humantime.specs.declared.duration.span.Span.{Span}
 use Rattle.humantime.specs.Characters.{drop_while, is_whitespace}
 use Rattle.humantime.specs.DurationErrors.{IsRangeIn, PointsInto, fault_of, Fault}
 use Rattle.humantime.specs.Items.{SpanView}
-use Rattle.humantime.specs.DurationResults.{left_at, trimmed}
+use Rattle.humantime.specs.DurationResults.{items_from, trimmed}
 
 -- The slices, offsets and number of a span.
 abbrev pub span_view : Span → SpanView
@@ -31,7 +31,7 @@ item_of (Err e) = Err (fault_of e)
 abbrev pub items_left : SpanIter → List (Result SpanView Fault)
 items_left i =
     if i.ended then []
-    else left_at (length i.rest.now == length i.text.now) (chars i.text.now)
+    else items_from (length i.rest.now == length i.text.now) (chars i.text.now)
     (drop_while is_whitespace (chars i.rest.now))
 
 -- The text that an iterator borrows.

@@ -154,13 +154,14 @@ has_punctuation bytes =
     && (slice_index bytes 13 == byte ":") && (slice_index bytes 16 == byte ":")
 
 -- Tests whether bytes `k` and `k + 1` are digits.
-unfoldable pub has_two : List ℕ → ℕ → Bool
-has_two bytes k = is_ascii_digit (slice_index bytes k) && is_ascii_digit (slice_index bytes (k + 1))
+unfoldable pub has_two_digits : List ℕ → ℕ → Bool
+has_two_digits bytes k = is_ascii_digit (slice_index bytes k)
+    && is_ascii_digit (slice_index bytes (k + 1))
 
 -- Tests whether the 14 of the first 19 bytes that `has_separator` and `has_punctuation` do not test
 -- are digits.
 unfoldable pub has_digits : List ℕ → Bool
-has_digits b = list_all (λ k. has_two b k) (0 ∷ 2 ∷ 5 ∷ 8 ∷ 11 ∷ 14 ∷ 17 ∷ [])
+has_digits b = list_all (λ k. has_two_digits b k) (0 ∷ 2 ∷ 5 ∷ 8 ∷ 11 ∷ 14 ∷ 17 ∷ [])
 
 -- Returns the value of the digits from one byte offset to another.
 unfoldable pub number_between : List ℕ → ℕ → ℕ → ℕ
@@ -193,8 +194,8 @@ abbrev pub fraction_part : List ℕ → List ℕ
 fraction_part bytes = before_zone (drop 19 bytes)
 
 -- Tests whether these bytes are empty or begin with a point.
-unfoldable pub has_point : List ℕ → Bool
-has_point part = (length part == 0) || (slice_index part 0 == byte ".")
+unfoldable pub may_be_fraction : List ℕ → Bool
+may_be_fraction part = (length part == 0) || (slice_index part 0 == byte ".")
 
 -- The checks of the weak form in order, each with its error.
 abbrev pub weak_checks : List ℕ → List (Bool × TimestampError)
@@ -203,7 +204,7 @@ weak_checks bytes =
     ∷ (has_punctuation bytes, InvalidFormat)
     ∷ (has_digits bytes, InvalidDigit)
     ∷ (is_valid_date_time (date_time_of bytes), OutOfRange)
-    ∷ (has_point (fraction_part bytes), InvalidFormat)
+    ∷ (may_be_fraction (fraction_part bytes), InvalidFormat)
     ∷ (all_ascii_digits (drop 1 (fraction_part bytes)), InvalidDigit)
     ∷ []
 

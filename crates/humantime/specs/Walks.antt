@@ -2,19 +2,19 @@
 -- in `proofs` relate them to the definitions in `Durations` and `DurationErrors`.
 use Rattle.std.specs.Prelude.{ℕ, zero, suc, ◌+◌, Bool, true, not, ◌&&◌, ◌==◌, List, [], ◌∷◌, length, Option, Some, None, is_some, Result, Ok, Err, if◌then◌else◌, map, encode_utf8_all}
 use Rattle.humantime.specs.Characters.{begins, drop_while, decimal_value, is_whitespace, is_digit, is_letter, offset_of}
-use Rattle.humantime.specs.Durations.{Quantity, scale_of_word, SpelledSpan, quantity_nanos, additions_of, fits, is_some_and, has_room, too_long}
+use Rattle.humantime.specs.Durations.{Quantity, scale_of_word, SpelledSpan, quantity_nanos, additions_of, fits, is_some_and, has_room, digits_overflow}
 use Rattle.humantime.specs.DurationErrors.{number_of, after_number, fraction_of, after_fraction, word_of, after_word, span_of, may_follow_span, Fault, InvalidCharacter, NumberExpected, UnknownUnit, NumberOverflow, Empty}
 
 -- Tests whether a text may begin a word: it is empty, or begins with a letter.
-abbrev pub may_be_word : List ℕ → Bool
-may_be_word [] = true
-may_be_word (c ∷ cs) = is_letter c
+abbrev pub at_letter_or_end : List ℕ → Bool
+at_letter_or_end [] = true
+at_letter_or_end (c ∷ cs) = is_letter c
 
 -- Tests whether a point without digits follows the number at the start of `rest`, and then a letter
 -- or the end of the text.
 abbrev pub has_bare_point : List ℕ → Bool
 has_bare_point rest =
-    is_some_and (λ ds. length ds == 0) (fraction_of rest) && may_be_word (after_fraction rest)
+    is_some_and (λ ds. length ds == 0) (fraction_of rest) && at_letter_or_end (after_fraction rest)
 
 -- Returns the fault at the start of `rest`, if any: that of the first of these that holds. `rest`
 -- does not begin with a digit; its number or its fraction is too long; a point has no digits; a
@@ -23,7 +23,7 @@ has_bare_point rest =
 unfoldable pub fault_at : List ℕ → List ℕ → Option Fault
 fault_at text rest =
     if not (begins is_digit rest) then Some (NumberExpected (offset_of text rest))
-    else if too_long (span_of rest) then Some NumberOverflow
+    else if digits_overflow (span_of rest) then Some NumberOverflow
     else if has_bare_point rest then Some (InvalidCharacter (offset_of text (after_number rest)))
     else if not (may_follow_span (after_word rest))
     then Some (InvalidCharacter (offset_of text (after_word rest)))

@@ -7,8 +7,8 @@ ghost use Rattle.std.specs.Prelude.{◌≤◌, chars, ◌≡◌, ◌++◌, ◌�
 ghost use Rattle.humantime.specs.declared.calendar.Date.{Date};
 ghost use Rattle.humantime.specs.Prelude.{ExactlyOne, IsDateOfDay, IsPrinted, IsStrict, IsWeak, strict_answer, strict_checks, weak_answer, weak_checks};
 ghost use Rattle.humantime.specs.Laws.{HasOneOutcome, ItemsDecide, ItemsTile, KeepsValueWithZeros, AddWhenJoined, KeepValueReordered};
-ghost use Rattle.humantime.specs.Laws.{KeepsValueWithoutWhitespace, IsBounded, IsCanonicalAgain, TextsTellApart, PrintsAndReads};
-ghost use Rattle.humantime.specs.Laws.{PrintInOrder, HasOneTimestamp, MomentPrintsAndReads, IsWeakAndMarked};
+ghost use Rattle.humantime.specs.Laws.{KeepsValueWithoutWhitespace, PrintsWithinBounds, IsCanonicalAgain, TextsTellApart, PrintsAndReads};
+ghost use Rattle.humantime.specs.Laws.{PrintInOrder, HasOneTimestamp, MomentPrintsAndReads, StrictIsWeak};
 ghost use Rattle.std.specs.Cmp.Lexicographic.{slice_cmp};
 ghost use Rattle.std.specs.Ordering.{is_lt, nat_cmp};
 
@@ -240,7 +240,7 @@ pub fn printed_durations_differ(a: StdDuration, b: StdDuration)
 /// ```
 #[tactic(auto, using(crate::proofs::Theorems::printed_bounds))]
 pub fn printed_bounds(d: StdDuration)
-    ensures { IsBounded d }
+    ensures { PrintsWithinBounds d }
 {}
 
 /// States that an accepted string has a canonical string, which parses to the same duration and is
@@ -285,7 +285,7 @@ pub fn canonical_again(s: &str)
 /// ```
 #[tactic(auto, using(crate::proofs::Theorems::strict_is_weak))]
 pub fn strict_is_weak(s: &str)
-    ensures { IsWeakAndMarked s.now }
+    ensures { StrictIsWeak s.now }
 {}
 
 /// States that each string has exactly one outcome for each parser, a time or an error, which is

@@ -40,23 +40,35 @@ pub(crate) enum Quantity {
 #[derive(Clone, Copy, Debug)]
 pub(crate) struct Scale {
     /// The size of one unit.
-    pub whole: Quantity,
+    pub one: Quantity,
     /// The same size as a factor for fractions: a fraction times this must be a whole number of
     /// nanoseconds or of seconds. `None` if a fraction must be zero.
-    pub part: Option<Quantity>,
+    pub for_fractions: Option<Quantity>,
 }
 
 /// The scale of a unit of this size. It is a macro, because a reference to a constant expression is
 /// `'static`, and a reference to the result of a function is not.
 macro_rules! unit {
     // One nanosecond, which has no fractions.
-    (nanosecond) => { Some(&Scale { whole: Quantity::Nanos(1), part: None }) };
+    (nanosecond) => { Some(&Scale {
+        one: Quantity::Nanos(1),
+        for_fractions: None,
+    }) };
     // A size in nanoseconds or in seconds. A fraction of either must be a whole number of
     // nanoseconds.
-    (nanos $size:expr) => { Some(&Scale { whole: Quantity::Nanos($size), part: Some(Quantity::Nanos($size)) }) };
-    (seconds nanos $size:expr) => { Some(&Scale { whole: Quantity::Seconds($size), part: Some(Quantity::Nanos($size * NANOS_PER_SECOND as u64)) }) };
+    (nanos $size:expr) => { Some(&Scale {
+        one: Quantity::Nanos($size),
+        for_fractions: Some(Quantity::Nanos($size)),
+    }) };
+    (seconds nanos $size:expr) => { Some(&Scale {
+        one: Quantity::Seconds($size),
+        for_fractions: Some(Quantity::Nanos($size * NANOS_PER_SECOND as u64)),
+    }) };
     // A size in seconds. A fraction must be a whole number of seconds.
-    (seconds $size:expr) => { Some(&Scale { whole: Quantity::Seconds($size), part: Some(Quantity::Seconds($size)) }) };
+    (seconds $size:expr) => { Some(&Scale {
+        one: Quantity::Seconds($size),
+        for_fractions: Some(Quantity::Seconds($size)),
+    }) };
 }
 
 /// Returns the scale of a unit by its word, or `None` if there is no such unit.

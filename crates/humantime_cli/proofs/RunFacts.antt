@@ -3,7 +3,7 @@
 -- definition or a clause of `run` is weakened.
 use Rattle.std.proofs.Common.{arith, ◌≡◌, ◌≢◌, ◌<◌, ℕ, ◌*◌, List, [], ◌∷◌, ◌++◌, length, take, subst, inl, inr, refl, ◌∙◌, append-nil, ℤ, pos, Some, None, Result, Ok, Err, chars, codes}
 use Rattle.humantime.specs.DurationErrors.{Fault, HasFault, InvalidCharacter, fault_message}
-use Rattle.humantime.specs.PrintedDurations.{IsCanonicalOf}
+use Rattle.humantime.specs.PrintedDurations.{CanonicalizesTo}
 use Rattle.humantime.specs.TimestampResults.{moment_text}
 use Rattle.humantime.specs.Timestamps.{IsPrinted, IsStrictMoment, IsWeakMoment, first_failed, places_of, strict_checks, timestamp_message, weak_checks}
 use Rattle.humantime.specs.Values.{nanos_per_second}
@@ -72,7 +72,7 @@ abbrev answered : List ℕ → List ℕ → Result (List ℕ) (List ℕ) → Typ
 answered name text output = Answers (name ∷ text ∷ []) (Some output)
 
 any_text : (text shown : List ℕ) (t : ℤ) (fault : Fault) (e : TimestampError)
-    → (IsCanonicalOf text shown → answered (codes "duration") text (Ok shown))
+    → (CanonicalizesTo text shown → answered (codes "duration") text (Ok shown))
     × (HasFault (chars text) fault → answered (codes "duration") text (Err (fault_message fault)))
     × (IsStrictMoment text t × IsPrinted t (places_of t) shown → answered (codes "strict") text (Ok shown))
     × (IsWeakMoment text t × IsPrinted t (places_of t) shown → answered (codes "weak") text (Ok shown))

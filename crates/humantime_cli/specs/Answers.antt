@@ -4,7 +4,7 @@ use Rattle.std.specs.Prelude.{◌≡◌, ◌≢◌, ◌⊎◌, ℕ, List, [], �
 use Rattle.std.specs.Borrow.{Bor}
 use Rattle.std.specs.Io.KnownBytes.{Appends, Keeps}
 use Rattle.humantime.specs.declared.date.error.TimestampError.{TimestampError}
-use Rattle.humantime.specs.Prelude.{Fault, HasFault, IsCanonicalOf, fault_message, timestamp_message, IsWeakMoment, IsStrictMoment, weak_checks, strict_checks, first_failed, IsPrinted, places_of}
+use Rattle.humantime.specs.Prelude.{Fault, HasFault, CanonicalizesTo, fault_message, timestamp_message, IsWeakMoment, IsStrictMoment, weak_checks, strict_checks, first_failed, IsPrinted, places_of}
 use Rattle.humantime_cli.specs.Writes.{AppendsFront, line}
 
 -- The arguments after the program's name, as texts.
@@ -28,7 +28,7 @@ IsMomentOutput Denotes Has (Err message) =
 
 -- The output of a command for a text: the printed result, or the message of the error.
 abbrev pub IsOutputOf : {name : List ℕ} → Command name → List ℕ → Result (List ℕ) (List ℕ) → Type 0
-IsOutputOf Duration text (Ok printed) = IsCanonicalOf text printed
+IsOutputOf Duration text (Ok printed) = CanonicalizesTo text printed
 IsOutputOf Duration text (Err message) =
     (fault : Fault) × HasFault (chars text) fault × (message ≡ fault_message fault)
 IsOutputOf Strict text output = IsMomentOutput (IsStrictMoment text)

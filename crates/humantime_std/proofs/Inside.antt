@@ -12,14 +12,15 @@ use Rattle.std.specs.Int.{is_in_range}
 use Rattle.std.specs.List.{AllByRecursion, prefix_len}
 use Rattle.std.specs.Prelude.{⊤}
 use Rattle.std.proofs.lemmas.Slice.Zip.{length-zip}
-use Rattle.humantime.specs.Timestamps.{has_digits, has_two, number_between}
+use Rattle.humantime.specs.Timestamps.{has_digits, has_two_digits, number_between}
 use Rattle.humantime.proofs.TimestampParts.{has_two_from_test, number_of_two, number_of_four}
 use Rattle.humantime_std.specs.Located.{IsRangeIn, char_end, fit_len, fits, fraction_end, layout, timestamp_len, wrong_field, zone_len}
 
 -- ---- Numbers
 
 -- The year is that of two pairs.
-pub year_of_pairs : (b : List ℕ) → 19 ≤ length b → has_two b 0 ≡ true → has_two b 2 ≡ true
+pub year_of_pairs : (b : List ℕ) → 19 ≤ length b → has_two_digits b 0 ≡ true
+    → has_two_digits b 2 ≡ true
     → number_between b 0 4 ≡ number_between b 0 2 * 100 + number_between b 2 4
 year_of_pairs b long century decade =
     omega (
@@ -50,7 +51,7 @@ fitting strict (p ∷ ps) (c ∷ cs) (suc k) ascii few = grind (arith, (fitting 
 fitting strict places b k ascii few = absurd (grind arith)
 
 fitting_digits : (strict : Bool) (b : List ℕ) → fit_len strict b ≡ 19 → has_digits b ≡ true
-unfolding fit_len has_digits has_two
+unfolding fit_len has_digits has_two_digits
 fitting_digits strict b all =
     let digit = λ (k : ℕ) (few : k < 19). (fitting strict layout b k (search rules) (omega (arith, all))).0 in
     grind (

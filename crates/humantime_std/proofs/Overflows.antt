@@ -1,7 +1,7 @@
 -- The first span up to whose end a text overflows.
-use Rattle.humantime.specs.Characters.{bare_zero, take_while, is_numeric, is_point, is_whitespace, offset_of}
-use Rattle.humantime.specs.DurationErrors.{BeginsSpan, BreaksLimit, Fault, IsRangeIn, IsStoppedWith, NumberOverflow, after_number, after_word, span_of, word_of}
-use Rattle.humantime.specs.DurationResults.{IsDurationAnswer, duration_answer, left_at, view_at}
+use Rattle.humantime.specs.Characters.{bare_zero, take_while, in_number, is_point, is_whitespace, offset_of}
+use Rattle.humantime.specs.DurationErrors.{BeginsWithSpan, BreaksLimit, Fault, IsRangeIn, IsStoppedWith, NumberOverflow, after_number, after_word, span_of, word_of}
+use Rattle.humantime.specs.DurationResults.{IsDurationAnswer, duration_answer, items_from, view_at}
 use Rattle.humantime.specs.Durations.{Reads, SpelledSpan, WithinLimits}
 use Rattle.humantime.specs.Items.{AreItems, Items}
 use Rattle.humantime.specs.SpanResults.{GivesItem, item_of, items_left, span_view}
@@ -21,7 +21,7 @@ use Rattle.humantime.specs.declared.duration.span.Span.{Span}
 use Rattle.humantime.proofs.Outcomes.{fault_from_outcome, items_whole, outcome_summed}
 use Rattle.humantime.proofs.Characters.{drop_while_shorter, take_while-drop_while}
 use Rattle.humantime.proofs.TextWalks.{IsReadTo, begun, not_zero, read_on, stops_here, walk-go}
-use Rattle.humantime.proofs.Spellings.{fine_goes, is_fine, next_of, next_smaller, point_and_digits}
+use Rattle.humantime.proofs.Spellings.{span_has_no_fault, no_fault_is_span, next_of, next_smaller, point_and_digits}
 use Rattle.humantime.proofs.Items.{one_span_view}
 use Rattle.humantime.proofs.Slices.{start_trimmed}
 use Rattle.humantime_std.specs.Located.{BeginsSpans, Fit, OverflowsAt, body, drop_spans, end_at, start_at, take_spans}
@@ -62,7 +62,7 @@ trimmed_at bs tail t utf8 other is =
 -- One more span.
 one_more : (rest : List ℕ) (k : ℕ) → (drop_spans (suc k) rest ≡ next_of (drop_spans k rest))
     × (take_spans (suc k) rest ≡ take_spans k rest ++ span_of (drop_spans k rest) ∷ [])
-    × (BeginsSpans (suc k) rest ↔ (BeginsSpans k rest × BeginsSpan (drop_spans k rest)))
+    × (BeginsSpans (suc k) rest ↔ (BeginsSpans k rest × BeginsWithSpan (drop_spans k rest)))
 one_more rest zero = grind arith
 one_more rest (suc k) = grind (arith, (one_more (next_of rest) k))
 
@@ -101,21 +101,21 @@ none_or_some (Some e) = inr (e, refl)
 
 -- An error that stops a rest is no span.
 no_span : (first : Bool) (text rest : List ℕ) (k : ℕ) (e : Fault) → fault_at text rest ≡ Some e
-    → option_and_then result_ok (slice_get (left_at first text rest) k) ≡ None
-unfolding left_at walk
+    → option_and_then result_ok (slice_get (items_from first text rest) k) ≡ None
+unfolding items_from walk
 no_span first text rest k e stops = grind (arith, common_steps, gets)
 
 -- The item at an index, if it is no error, is the span there.
 item_at : (first : Bool) (text rest : List ℕ) (k : ℕ)
-    → SomeIff (option_and_then result_ok (slice_get (left_at first text rest) k))
+    → SomeIff (option_and_then result_ok (slice_get (items_from first text rest) k))
     (BeginsSpans (suc k) rest) (view_at text (drop_spans k rest))
-unfolding left_at
+unfolding items_from
 item_at first text rest zero = grind (
   arith,
   common_steps,
   (none_or_some (fault_at text rest)),
-  (is_fine text rest),
-  (fine_goes text rest),
+  (no_fault_is_span text rest),
+  (span_has_no_fault text rest),
   (walk-go text rest),
   (no_span first text rest 0),
 )
@@ -124,8 +124,8 @@ item_at first text rest (suc k) =
       arith,
       common_steps,
       (none_or_some (fault_at text rest)),
-      (is_fine text rest),
-      (fine_goes text rest),
+      (no_fault_is_span text rest),
+      (span_has_no_fault text rest),
       (walk-go text rest),
       (no_span first text rest (suc k)),
       (item_at false text (next_of rest) k),
@@ -154,7 +154,7 @@ cut_after_word : (bs front rest : List ℕ) → IsUtf8 bs → chars bs ≡ front
 unfolding is_point
 cut_after_word bs front rest utf8 whole =
     let span =
-    take_while is_numeric rest ++ (point_and_digits (after_number rest) ++ word_of rest) in
+    take_while in_number rest ++ (point_and_digits (after_number rest) ++ word_of rest) in
     let parts : rest ≡ span ++ after_word rest =
     grind (arith, common_steps, take_while-drop_while) in
     let cut = cut_at bs (front ++ span) (after_word rest) utf8 (grind (arith, append_assoc, whole, parts)) in
@@ -198,13 +198,13 @@ front_decides bs tail t k end utf8 other found cut trim =
 overflow_row : (text front rest : List ℕ) (spans : List SpelledSpan)
     → IsReadTo text front spans rest → text ≢ bare_zero → duration_answer text ≡ Err NumberOverflow
     → WithinLimits spans
-    → ¬ (BeginsSpan rest × WithinLimits (spans ++ span_of rest ∷ []))
+    → ¬ (BeginsWithSpan rest × WithinLimits (spans ++ span_of rest ∷ []))
     → IsStoppedWith text front spans rest NumberOverflow ⊎ BreaksLimit spans rest NumberOverflow
 overflow_row text front rest spans read some over within beyond =
     elim (none_or_some (fault_at text rest)) [
       | inl none ↦ inr (record {
-        span = is_fine text rest none;
-        beyond = λ more. beyond (is_fine text rest none, more);
+        span = no_fault_is_span text rest none;
+        beyond = λ more. beyond (no_fault_is_span text rest none, more);
         fault = refl;
       })
       | inr stop ↦

@@ -10,9 +10,9 @@ use Rattle.humantime.specs.declared.date.error.TimestampError.{TimestampError}
 use Rattle.humantime.specs.declared.date.error.TimestampError.TheVariants.{OutOfRange}
 use Rattle.humantime.specs.Calendar.{is_valid}
 use Rattle.humantime.specs.Characters.{byte_length, drop_while, is_whitespace, offset_of}
-use Rattle.humantime.specs.DurationErrors.{Fault, InvalidCharacter, NumberExpected, UnknownUnit, NumberOverflow, Empty, BeginsSpan, HasFault, after_word, span_of}
+use Rattle.humantime.specs.DurationErrors.{Fault, InvalidCharacter, NumberExpected, UnknownUnit, NumberOverflow, Empty, BeginsWithSpan, HasFault, after_word, span_of}
 pub use Rattle.humantime.specs.DurationErrors.{IsRangeIn}
-use Rattle.humantime.specs.Durations.{SpelledSpan, WithinLimits, too_long}
+use Rattle.humantime.specs.Durations.{SpelledSpan, WithinLimits, digits_overflow}
 use Rattle.humantime.specs.TimestampResults.{strict_answer, weak_answer}
 use Rattle.humantime.specs.Timestamps.{date_time_of}
 use Rattle.humantime_std.specs.declared.located.Located.{Located}
@@ -101,7 +101,7 @@ strict_error b = option_map (located true b) (result_err (strict_answer b))
 pub record OverflowsAt (text : List ℕ) (start end : ℕ) : Type 0 where
   pub fault : HasFault text NumberOverflow
   pub at_start : start ≡ offset_of text fault.rest
-  pub at_end : end ≡ (if too_long (span_of fault.rest) then byte_length text
+  pub at_end : end ≡ (if digits_overflow (span_of fault.rest) then byte_length text
       else offset_of text (after_word fault.rest))
 
 -- The bytes of a duration's fault: the character that is wrong, the unit, the span at which the
@@ -133,7 +133,7 @@ drop_spans (suc k) rest = drop_spans k (body (after_word rest))
 -- The text begins with `k` whole spans.
 abbrev pub BeginsSpans : ℕ → List ℕ → Type 0
 BeginsSpans zero rest = ⊤
-BeginsSpans (suc k) rest = BeginsSpan rest × BeginsSpans k (body (after_word rest))
+BeginsSpans (suc k) rest = BeginsWithSpan rest × BeginsSpans k (body (after_word rest))
 
 -- Returns the offset of what follows the first `k` spans, after any whitespace, and the whitespace
 -- after each.

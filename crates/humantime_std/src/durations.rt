@@ -3,7 +3,7 @@
 
 ghost use Rattle.std.specs.Prelude.{◌≡◌, ◌≢◌, ◌-◌, ◌*◌, ◌/◌, ◌<◌, ◌≤◌, ◌↔◌, ℕ, min, option_map, IsTrue, SomeIff};
 ghost use Rattle.std.specs.Duration.{as_nanos};
-ghost use Rattle.humantime.specs.Prelude.{duration_end, fault_of, place_of};
+ghost use Rattle.humantime.specs.Prelude.{duration_end, fault_of, fault_offset};
 ghost use Rattle.humantime_std.specs.Rounding.{nearest_multiple};
 
 use humantime::{DurationError, StdDuration};
@@ -332,7 +332,7 @@ pub fn next_delay(delay: StdDuration, factor: u64, most: StdDuration) -> StdDura
 /// assert_eq!(rt; error_offset(&DurationError::NumberOverflow), None);
 /// ```
 pub fn error_offset(error: &DurationError<'_>) -> Option<usize>
-    ensures { result ≡ place_of (fault_of error.now) }
+    ensures { result ≡ fault_offset (fault_of error.now) }
 {
     match error {
         DurationError::InvalidCharacter(at) | DurationError::NumberExpected(at) => Some(*at),

@@ -7,7 +7,7 @@ ghost use Rattle.std.specs.List.{after_last, before_first, prefix_len};
 ghost use Rattle.std.specs.Result.{result_err, result_map_both};
 ghost use Rattle.std.specs.Str.{IsCharBoundary};
 ghost use Rattle.humantime.specs.Prelude.{NumberOverflow, duration_answer, fault_of, strict_answer, weak_answer};
-ghost use Rattle.humantime.specs.Timestamps.{has_digits, has_two, number_between};
+ghost use Rattle.humantime.specs.Timestamps.{has_digits, has_two_digits, number_between};
 ghost use Rattle.humantime_lines.specs.Lines.{line_after, line_before, line_number};
 ghost use Rattle.humantime_std.specs.Located as spec;
 ghost use Rattle.humantime_std.specs.Located.{BeginsSpans, Fit, IsFaultRange, IsRangeIn, OverflowsAt, body, end_at, start_at, strict_error, weak_error};
@@ -374,7 +374,7 @@ fn wrong_field(bytes: &[u8]) -> (usize, usize)
 #[tactic(auto, using(crate::proofs::Inside::pairs))]
 fn pair(bytes: &[u8], at: usize) -> u32
     requires long { at + 2 ≤ length bytes.now }
-    requires digits { has_two bytes.now at ≡ true }
+    requires digits { has_two_digits bytes.now at ≡ true }
     ensures number { result ≡ number_between bytes.now at (at + 2) }
     ensures small { result < 100 }
 {

@@ -3,9 +3,9 @@
 -- that it holds at every value.
 use Rattle.humantime.specs.Characters.{decimal_value, without_trailing_zeros}
 use Rattle.humantime.specs.DurationResults.{divided, duration_text}
-use Rattle.humantime.specs.Durations.{in_nanos, in_seconds, in_seconds_and_nanos, scale_of_word, whole_nanos, SpelledSpan, Reads, Accepted, AllHaveRoom, BareZero, SumOf, Formed, WithinLimits, additions, additions_of, fits, fraction_additions, fraction_fits, has_room, has_too_many_digits, of_kind, quantity_nanos, size, times, too_long, total, value}
+use Rattle.humantime.specs.Durations.{in_nanos, in_seconds, in_seconds_and_nanos, scale_of_word, whole_nanos, SpelledSpan, Reads, Accepted, AllHaveRoom, BareZero, SumOf, Formed, WithinLimits, additions, additions_of, fits, fraction_additions, fraction_fits, has_room, has_too_many_digits, with_size, quantity_nanos, size, times, digits_overflow, total, value}
 use Rattle.humantime.specs.Laws.{OlderFormed, OlderFraction, older_additions, older_additions_of, older_fraction_additions, older_value, AcceptedWithZeros, OlderZero, OlderSum}
-use Rattle.humantime.specs.PrintedDurations.{Suffix, printed_count, printed_counts, joined_by_space, suffixes, weights}
+use Rattle.humantime.specs.PrintedDurations.{Suffix, printed_count, printed_counts, joined_or_zero, suffixes, weights}
 use Rattle.std.proofs.Common.{◌≡◌, ◌∙◌, ◌↔◌, ℕ, ◌+◌, ◌*◌, ◌/◌, ◌%◌, ◌^◌, ◌≤◌, List, [], ◌∷◌, ◌++◌, Some, None, length, refl, sym, ap, arith, codes, decimal, Bool, true, false, ◌&&◌, ◌||◌, ◌==◌, nat_le, nat_lt, if◌then◌else◌, option_map, sum_by, unwrap_or, IsSome, Option, zip}
 use Rattle.std.proofs.lemmas.Bool.Decides.{nat_tests}
 use Rattle.std.specs.List.{AllByRecursion}
@@ -24,14 +24,17 @@ small n = nat_le n greatest
 -- A unit adds seconds or nanoseconds, and so do its fractions, if it has any: how many of them, and
 -- how many nanoseconds these are.
 abbrev amounts : Scale → (ℕ × ℕ) × Option (ℕ × ℕ)
-amounts unit = ((size unit.whole, quantity_nanos unit.whole), option_map (λ x. (size x, quantity_nanos x)) unit.part)
+amounts unit = (
+  (size unit.one, quantity_nanos unit.one),
+  option_map (λ x. (size x, quantity_nanos x)) unit.for_fractions,
+)
 
 any_unit : (m n : ℕ) → let nanos = n * 1_000_000_000 in
     (amounts whole_nanos ≡ ((1, 1), None)) × (amounts (in_nanos n) ≡ ((n, n), Some (n, n)))
     × (amounts (in_seconds_and_nanos n) ≡ ((n, nanos), Some (nanos, nanos)))
     × (amounts (in_seconds n) ≡ ((n, nanos), Some (n, nanos)))
-    × (of_kind (in_nanos m).whole n ≡ (in_nanos n).whole)
-    × (of_kind (in_seconds m).whole n ≡ (in_seconds n).whole)
+    × (with_size (in_nanos m).one n ≡ (in_nanos n).one)
+    × (with_size (in_seconds m).one n ≡ (in_seconds n).one)
 any_unit m n = (refl, refl, refl, refl, refl, refl)
 
 -- ---- digits
@@ -44,7 +47,8 @@ trailing_zeros ds d = (refl, significant_zero ds, significant_last ds d)
 
 -- A number has to fit 64 bits, and a fraction may have nineteen digits without its trailing zeros.
 any_length : (s : SpelledSpan) (fs : List ℕ)
-    → (too_long s ≡ (nat_lt greatest (decimal_value s.number) || has_too_many_digits s.fraction))
+    → (digits_overflow s
+    ≡ (nat_lt greatest (decimal_value s.number) || has_too_many_digits s.fraction))
     × (has_too_many_digits None ≡ false)
     × (has_too_many_digits (Some fs) ≡ nat_lt 19 (length (without_trailing_zeros fs)))
 any_length s fs = (refl, refl, refl)
@@ -54,9 +58,9 @@ any_length s fs = (refl, refl, refl)
 -- The number times the size of the unit has to fit 64 bits, and the fraction has to fit. Both are
 -- added.
 any_number : (s : SpelledSpan) (unit : _) → scale_of_word s.word ≡ Some unit → let n =
-    decimal_value s.number * size unit.whole in
-    (fits s ≡ (small n && fraction_fits unit.part s.fraction))
-    × (additions_of s ≡ of_kind unit.whole n ∷ fraction_additions unit.part s.fraction)
+    decimal_value s.number * size unit.one in
+    (fits s ≡ (small n && fraction_fits unit.for_fractions s.fraction))
+    × (additions_of s ≡ with_size unit.one n ∷ fraction_additions unit.for_fractions s.fraction)
 any_number s unit is = (rw is refl, rw is refl)
 
 -- Without its trailing zeros, a fraction denotes a whole number of what it is a part of, and its
@@ -67,7 +71,7 @@ any_fraction : (part : _) (fs : List ℕ) → let ds =
     (fraction_fits (Some part) (Some fs) ≡ (small n && (n % 10 ^ length ds == 0)))
     × (fraction_fits None (Some fs) ≡ (length ds == 0)) × (fraction_fits (Some part) None ≡ true)
     × (fraction_fits None None ≡ true)
-    × (fraction_additions (Some part) (Some fs) ≡ of_kind part (n / 10 ^ length ds) ∷ [])
+    × (fraction_additions (Some part) (Some fs) ≡ with_size part (n / 10 ^ length ds) ∷ [])
     × (fraction_additions (Some part) None ≡ []) × (fraction_additions None (Some fs) ≡ [])
     × (fraction_additions None None ≡ [])
 any_fraction part fs = (refl, refl, refl, refl, refl, refl, refl, refl)
@@ -76,13 +80,14 @@ any_fraction part fs = (refl, refl, refl, refl, refl, refl, refl, refl)
 
 -- The seconds of the new sum have to fit 64 bits, and added nanoseconds have to do so together with
 -- those below a second.
-room : (t n : ℕ) → (has_room t (in_seconds n).whole ≡ small (t / 1_000_000_000 + n))
-    × (has_room t (in_nanos n).whole ≡ (small (t % 1_000_000_000 + n) && small ((t + n) / 1_000_000_000)))
+room : (t n : ℕ) → (has_room t (in_seconds n).one ≡ small (t / 1_000_000_000 + n))
+    × (has_room t (in_nanos n).one ≡ (small (t % 1_000_000_000 + n) && small ((t + n) / 1_000_000_000)))
 room t n = (refl, refl)
 
 -- These are the limits of any spans, however many there are.
-formed : (s : SpelledSpan) → Formed s ↔ ((too_long s ≡ false) × IsSome (scale_of_word s.word))
-formed s = (λ f. (f.short, f.word), λ h. record { short = h.0; word = h.1 })
+formed : (s : SpelledSpan) → Formed s
+    ↔ ((digits_overflow s ≡ false) × IsSome (scale_of_word s.word))
+formed s = (λ f. (f.digits_fit, f.word), λ h. record { digits_fit = h.0; word = h.1 })
 
 any_room : (xs : List _) → AllHaveRoom xs ↔ ((before after : List _) (x : _)
     → xs ≡ before ++ x ∷ after → has_room (total before) x ≡ true)
@@ -112,8 +117,8 @@ any_spans text s spans = (
 -- fraction was within its limits.
 older_span : (s : SpelledSpan) (unit : _) → scale_of_word s.word ≡ Some unit
     → OlderFormed s
-    ↔ ((decimal_value s.number ≤ greatest) × (decimal_value s.number * size unit.whole ≤ greatest)
-    × OlderFraction unit.part s.fraction)
+    ↔ ((decimal_value s.number ≤ greatest) × (decimal_value s.number * size unit.one ≤ greatest)
+    × OlderFraction unit.for_fractions s.fraction)
 older_span s unit is = (
   λ h.
       let same : h.unit ≡ unit = ap (λ u. unwrap_or u unit) (sym h.word ∙ is) in
@@ -146,9 +151,10 @@ older_spans text spans reads formed room = OlderSum spans reads formed room refl
 -- A span added its number and then its fraction, with all digits of both.
 older_addition : (s : SpelledSpan) (unit part : _) (ds : List ℕ) → (scale_of_word s.word ≡ Some unit
     → older_additions_of s
-    ≡ times (decimal_value s.number) unit.whole ∷ older_fraction_additions unit.part s.fraction)
+    ≡ times (decimal_value s.number) unit.one
+    ∷ older_fraction_additions unit.for_fractions s.fraction)
     × (older_fraction_additions (Some part) (Some ds)
-    ≡ of_kind part (decimal_value ds * size part / 10 ^ length ds) ∷ [])
+    ≡ with_size part (decimal_value ds * size part / 10 ^ length ds) ∷ [])
 older_addition s unit part ds = (λ is. rw is refl, refl)
 
 -- ---- printing
@@ -163,13 +169,13 @@ plural n unit = (refl, refl)
 any_count : (c : ℕ) (x : Suffix) (counts : List ℕ) (ends : List Suffix) (a b : List ℕ) (others : List (List ℕ))
     → (printed_counts (0 ∷ counts) (x ∷ ends) ≡ printed_counts counts ends)
     × (nat_lt 0 c ≡ true → printed_counts (c ∷ counts) (x ∷ ends) ≡ printed_count c x ∷ printed_counts counts ends)
-    × (joined_by_space [] ≡ codes "0s") × (joined_by_space (a ∷ []) ≡ a)
-    × (joined_by_space (a ∷ b ∷ others) ≡ a ++ byte " " ∷ joined_by_space (b ∷ others))
+    × (joined_or_zero [] ≡ codes "0s") × (joined_or_zero (a ∷ []) ≡ a)
+    × (joined_or_zero (a ∷ b ∷ others) ≡ a ++ byte " " ∷ joined_or_zero (b ∷ others))
 any_count c x counts ends a b others = (refl, λ some. rw some refl, refl, refl, refl)
 
 -- The counts come by division, from years to nanoseconds.
 any_text : (w d : ℕ) (ws : List ℕ) → (divided (w ∷ ws) d ≡ d / w ∷ divided ws (d % w))
-    × (duration_text d ≡ joined_by_space (printed_counts (divided weights d) suffixes))
+    × (duration_text d ≡ joined_or_zero (printed_counts (divided weights d) suffixes))
 unfolding duration_text
 any_text w d ws = (refl, refl)
 

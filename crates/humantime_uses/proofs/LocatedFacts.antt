@@ -3,7 +3,7 @@
 use Rattle.humantime.specs.Calendar.{days_in_month}
 use Rattle.humantime.specs.Characters.{byte_length, offset_of}
 use Rattle.humantime.specs.DurationErrors.{InvalidCharacter, NumberExpected, UnknownUnit, NumberOverflow, Empty, HasFault, after_word, span_of}
-use Rattle.humantime.specs.Durations.{too_long}
+use Rattle.humantime.specs.Durations.{digits_overflow}
 use Rattle.humantime.specs.Timestamps.{number_between}
 use Rattle.std.proofs.Common.{◌≡◌, ◌≢◌, ◌↔◌, ◌⊎◌, ℕ, ◌+◌, ◌<◌, ◌≤◌, List, [], ◌∷◌, ◌++◌, length, drop, refl, chars, arith, Bool, true, false, ◌||◌, ◌==◌, codes, slice_index, zip}
 use Rattle.std.proofs.lemmas.Bool.{cases_Bool}
@@ -107,9 +107,14 @@ any_fault text unit at to value start end =
 -- or its fraction is too long.
 any_overflow : (text : List ℕ) (start end : ℕ) → IsFaultRange text NumberOverflow start end
     ↔ ((h : HasFault (chars text) NumberOverflow) × (start ≡ offset_of (chars text) h.rest)
-    × (too_long (span_of h.rest) ≡ true → end ≡ byte_length (chars text))
-    × (too_long (span_of h.rest) ≡ false → end ≡ offset_of (chars text) (after_word h.rest)))
+    × (digits_overflow (span_of h.rest) ≡ true → end ≡ byte_length (chars text))
+    × (digits_overflow (span_of h.rest) ≡ false → end ≡ offset_of (chars text) (after_word h.rest)))
 any_overflow text start end = (
   λ o. (o.fault, o.at_start, λ long. grind (arith, long, o.at_end), λ short. grind (arith, short, o.at_end)),
-  λ h. record { fault = h.0; at_start = h.1; at_end = grind (arith, cases_Bool (too_long (span_of h.0.rest)), h) },
+  λ h. record {
+    fault = h.0;
+    at_start = h.1;
+    at_end = grind
+        (arith, cases_Bool (digits_overflow (span_of h.0.rest)), h);
+  },
 )

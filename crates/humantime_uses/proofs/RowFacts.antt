@@ -1,9 +1,9 @@
 -- The grammar of spans, each row of the table of first errors, the items of a text and the views of
 -- spans: each rule written out for any text, wherever its parts begin.
 use Rattle.humantime.specs.Characters.{take_while, drop_while, begins, ends, is_whitespace, is_digit, is_letter, is_point}
-use Rattle.humantime.specs.DurationErrors.{number_of, after_number, fraction_of, after_fraction, word_of, after_word, span_of, may_follow_span, Fault, InvalidCharacter, NumberExpected, UnknownUnit, NumberOverflow, Empty, Split, BeginsNumber, IsStoppedWith, OnlyWhitespace, NoNumber, TooLong, NoLetterAfterNumber, PointWithoutDigits, NoLetterAfterPoint, WordNotEnded, NoWord, UnknownWord, BreaksLimit, HasFault, fault_of, place_of, result_view, text_result_view}
-use Rattle.humantime.specs.Durations.{SpelledSpan, Spells, SpellsFraction, SpellsEach, SpellsAll, Reads, Formed, WithinLimits, scale_of_word, too_long}
-use Rattle.humantime.specs.Items.{EndsOrStops, Items, SpanView, IsDigitSlice, IsFractionView, IsSpanView, AreSpanViews, AreItems}
+use Rattle.humantime.specs.DurationErrors.{number_of, after_number, fraction_of, after_fraction, word_of, after_word, span_of, may_follow_span, Fault, InvalidCharacter, NumberExpected, UnknownUnit, NumberOverflow, Empty, Split, BeginsWithNumber, IsStoppedWith, OnlyWhitespace, NoNumber, DigitsOverflow, NoLetterAfterNumber, PointWithoutDigits, NoLetterAfterPoint, WordNotEnded, NoWord, UnknownWord, BreaksLimit, HasFault, fault_of, fault_offset, result_view, text_result_view}
+use Rattle.humantime.specs.Durations.{SpelledSpan, Spells, SpellsFraction, SpellsSpans, SpellsFront, Reads, Formed, WithinLimits, scale_of_word, digits_overflow}
+use Rattle.humantime.specs.Items.{EndsOrStops, Items, SpanView, IsDigitSlice, IsFractionSlice, IsSpanView, AreSpanViews, AreItems}
 use Rattle.std.proofs.Common.{◌≡◌, ◌≢◌, ◌⊎◌, ℕ, ◌-◌, List, [], ◌∷◌, ◌++◌, None, Some, Ok, Err, map, filter, length, drop, refl, Bool, true, false, ◌||◌, codes, encode_utf8_all, if◌then◌else◌, option_map, option_to_list, Option, IsSome, Bor}
 use Rattle.std.specs.List.{AllByRecursion}
 use Rattle.std.specs.Str.Parse.{digits_value}
@@ -80,13 +80,13 @@ any_fraction : (text ds : List ℕ) → SpellsFraction [] None
 any_fraction text ds = (refl, λ only digits some. (text, refl, (only, digits), some))
 
 any_spans : (space body : List ℕ) (spans : List SpelledSpan) → Only is_whitespace space
-    → SpellsEach body spans → spans ≢ []
+    → SpellsSpans body spans → spans ≢ []
     → Reads (space ++ body) spans
 any_spans space body spans white each some =
     (record { whitespace = space; body = body; whole = refl; only_whitespace = white; each = each }, some)
 
-each_span : (text : List ℕ) (s : SpelledSpan) (spans : List SpelledSpan) → SpellsEach [] []
-    × ((rest : List ℕ) → Spells text s rest → SpellsEach rest spans → SpellsEach text (s ∷ spans))
+each_span : (text : List ℕ) (s : SpelledSpan) (spans : List SpelledSpan) → SpellsSpans [] []
+    × ((rest : List ℕ) → Spells text s rest → SpellsSpans rest spans → SpellsSpans text (s ∷ spans))
 each_span text s spans = (refl, λ rest first others. (rest, first, others))
 
 -- ---- the rows of the table, for a text that is spans and a rest
@@ -98,17 +98,18 @@ module _ (text front rest : List ℕ) (spans : List SpelledSpan) where
   any_row : (spans ≡ [] → rest ≡ [] → Row Empty)
       × (rest ≢ [] → begins is_digit rest ≡ false → (spans ≡ []) ⊎ (ends is_whitespace front ≡ true)
       → Row (NumberExpected (offset text rest)))
-      × (begins is_digit rest ≡ true → too_long (span_of rest) ≡ true → Row NumberOverflow)
+      × (begins is_digit rest ≡ true → digits_overflow (span_of rest) ≡ true → Row NumberOverflow)
   any_row = (
     λ none end. OnlyWhitespace none end refl,
     λ some other at. NoNumber some other at refl,
-    λ digit long. TooLong digit long refl,
+    λ digit long. DigitsOverflow digit long refl,
   )
 
-  number : begins is_digit rest ≡ true → too_long (span_of rest) ≡ false → BeginsNumber rest
-  number digit short = record { digit = digit; short = short }
+  number : begins is_digit rest ≡ true → digits_overflow (span_of rest) ≡ false
+      → BeginsWithNumber rest
+  number digit short = record { digit = digit; digits_fit = short }
 
-  after_number_or_point : BeginsNumber rest → let here =
+  after_number_or_point : BeginsWithNumber rest → let here =
       InvalidCharacter (offset text (after_word rest)) in
       (fraction_of rest ≡ None → word_of rest ≡ [] → after_word rest ≢ [] → Row here)
       × (fraction_of rest ≡ Some [] → (word_of rest ≢ []) ⊎ (after_word rest ≡ [])
@@ -120,7 +121,7 @@ module _ (text front rest : List ℕ) (spans : List SpelledSpan) where
     λ some empty other. NoLetterAfterPoint begun some empty other refl,
   )
 
-  after_word_or_end : BeginsNumber rest → fraction_of rest ≢ Some []
+  after_word_or_end : BeginsWithNumber rest → fraction_of rest ≢ Some []
       → let end = length (encode_utf8_all text) in let value = digits_value 10 (number_of rest) in
       let after = offset text (after_word rest) in
       (word_of rest ≢ [] → may_follow_span (after_word rest) ≡ false → Row (InvalidCharacter after))
@@ -143,7 +144,7 @@ module _ (text front rest : List ℕ) (spans : List SpelledSpan) where
   )
 
   -- Nothing else is asked of the first error, nor of the items.
-  split : text ≡ front ++ rest → SpellsAll front spans → begins is_whitespace rest ≡ false
+  split : text ≡ front ++ rest → SpellsFront front spans → begins is_whitespace rest ≡ false
       → Split text front spans rest
   split whole spelled start = record { whole = whole; spelled = spelled; no_whitespace = start }
 
@@ -180,7 +181,7 @@ any_fault : (at start end value : ℕ) (unit : Bor (List ℕ)) (e : DurationErro
     ∷ NumberOverflow ∷ Empty ∷ [] in
     (map fault_of (errors.InvalidCharacter at ∷ errors.NumberExpected at ∷ errors.UnknownUnit start
     end unit value ∷ errors.NumberOverflow ∷ errors.Empty ∷ []) ≡ faults)
-    × (map place_of faults ≡ Some at ∷ Some at ∷ Some start ∷ None ∷ Some 0 ∷ [])
+    × (map fault_offset faults ≡ Some at ∷ Some at ∷ Some start ∷ None ∷ Some 0 ∷ [])
     × (result_view (Ok value) ≡ Ok value) × (result_view (Err e) ≡ Err (fault_of e))
     × (text_result_view (Ok unit) ≡ Ok unit.now) × (text_result_view (Err e) ≡ Err (fault_of e))
 any_fault at start end value unit e = (refl, refl, refl, refl, refl, refl)
@@ -202,7 +203,7 @@ any_slice before slice after white more first last =
 
 any_view : (text here next : List ℕ) (s : SpelledSpan) (x : SpanView) (is : Spells here s next)
     → IsDigitSlice is.number_text x.number
-    → IsFractionView is.fraction_text x.fraction → x.unit ≡ s.word → x.start ≡ offset text here
+    → IsFractionSlice is.fraction_text x.fraction → x.unit ≡ s.word → x.start ≡ offset text here
     → x.end ≡ offset text (is.whitespace ++ next) → x.value ≡ digits_value 10 s.number
     → IsSpanView text here s x next
 any_view text here next s x is number fraction unit start end value =
@@ -216,8 +217,8 @@ any_view text here next s x is number fraction unit start end value =
       value = value;
     }
 
-any_fraction_view : (text slice : List ℕ) → IsFractionView [] None
-    × (IsDigitSlice text slice → IsFractionView (codes "." ++ text) (Some slice))
+any_fraction_view : (text slice : List ℕ) → IsFractionSlice [] None
+    × (IsDigitSlice text slice → IsFractionSlice (codes "." ++ text) (Some slice))
 any_fraction_view text slice = (refl, λ is. (text, refl, is))
 
 any_views : (text here : List ℕ) (s : SpelledSpan) (ss : List SpelledSpan) (x : SpanView)
@@ -234,4 +235,4 @@ any_items : (text : List ℕ) (spans : List SpelledSpan) (stop : Option Fault) (
     → AreSpanViews text (drop_while is_whitespace text) spans views is.rest
     → AreItems text (map Ok views ++ option_to_list (option_map Err stop))
 any_items text spans stop views is each =
-    record { spans = spans; stop = stop; slices = views; items = is; are = refl; each = each }
+    record { spans = spans; stop = stop; views = views; items = is; listed_are = refl; each = each }

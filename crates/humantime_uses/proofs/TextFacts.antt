@@ -5,7 +5,7 @@ use Rattle.humantime.specs.DurationErrors.{HasFault, Fault, InvalidCharacter, Nu
 use Rattle.humantime.specs.Durations.{Accepted, Reads, SpelledSpan, WithinLimits, in_nanos, in_seconds, in_seconds_and_nanos, scale_of_word, whole_nanos, words}
 use Rattle.humantime.specs.Items.{SpanView}
 use Rattle.humantime.specs.Laws.{AreReordered, ExactlyOne, IsTiled, slices_of, without_whitespace, IsOutcome, IsZeroOrSpans, is_gap}
-use Rattle.humantime.specs.PrintedDurations.{IsCanonicalOf, IsCanonicalText}
+use Rattle.humantime.specs.PrintedDurations.{CanonicalizesTo, IsCanonicalText}
 use Rattle.humantime.specs.Timestamps.{timestamp_message}
 use Rattle.std.proofs.Common.{◌≡◌, ◌↔◌, ◌⊎◌, ℕ, List, [], ◌∷◌, ◌++◌, Ok, Err, map, filter, refl, chars, codes, bytes_eq, decimal, ◌&&◌, ◌||◌, ◌==◌, nat_le, not, true, option_to_list, IsPermutation}
 use Rattle.std.specs.Char.{char_set_contains}
@@ -78,7 +78,7 @@ any_law : {A : Type 0} (IsSo : A → Type 0) (text : List ℕ) (v : ℕ) (e : Fa
     ↔ ((text ≡ codes "0") ⊎ ((spans : List SpelledSpan) × Reads text spans × WithinLimits spans)))
 any_law IsSo text v e = (λ h. h, λ h. h, λ h. h, λ h. h)
 
-any_canonical : (text printed : List ℕ) → IsCanonicalOf text printed
+any_canonical : (text printed : List ℕ) → CanonicalizesTo text printed
     ↔ ((d : ℕ) × Accepted (chars text) d × IsCanonicalText d printed)
 any_canonical text printed = (
   λ c.

@@ -2,7 +2,7 @@
 use Rattle.humantime.specs.Calendar.{IsDate, days_in_month, days_of_months, days_of_years, is_valid, day_of}
 use Rattle.humantime.specs.Characters.{decimal_value}
 use Rattle.humantime.specs.Laws.{ReadsAs}
-use Rattle.humantime.specs.Timestamps.{cut, places_of, IsPrintable, IsPrinted, IsStrictMoment, IsWeakMoment, date_time_of, ends_in_zone, first_failed, fraction_part, has_two, is_valid_date_time, strict_checks, weak_checks, Fields, Letter_T, Space, NoZone, Letter_Z, ZeroOffset, IsStrict, IsWeak, fields_text, fraction_digits, fraction_nanos, fraction_text, moment_of, separator_byte, zone_text}
+use Rattle.humantime.specs.Timestamps.{cut, places_of, IsPrintable, IsPrinted, IsStrictMoment, IsWeakMoment, date_time_of, ends_in_zone, first_failed, fraction_part, has_two_digits, is_valid_date_time, strict_checks, weak_checks, Fields, Letter_T, Space, NoZone, Letter_Z, ZeroOffset, IsStrict, IsWeak, fields_text, fraction_digits, fraction_nanos, fraction_text, moment_of, separator_byte, zone_text}
 use Rattle.std.proofs.Common.{◌≡◌, ◌≢◌, ◌↔◌, ℕ, ◌+◌, ◌-◌, ◌*◌, ◌/◌, ◌%◌, ◌^◌, ◌≤◌, List, [], ◌∷◌, ◌++◌, None, Some, suc, length, take, drop, refl, arith, ℤ, ◌+ℤ◌, ◌≤ℤ◌, ◌<ℤ◌, pos, negsuc, Bool, true, false, ◌&&◌, ◌||◌, ◌==◌, nat_le, if◌then◌else◌, codes, min, not, option_map, slice_index, slice_range, nat_eq, IsTrue}
 use Rattle.std.proofs.lemmas.Bool.Decides.{nat_tests}
 use Rattle.std.proofs.lemmas.Int.{ints}
@@ -47,7 +47,7 @@ any_checks : (b : List ℕ) → let at = slice_index b in
           && (at 13 == byte ":") && (at 16 == byte ":"),
       InvalidFormat,
     )
-    ∷ (list_all (λ k. has_two b k) (0 ∷ 2 ∷ 5 ∷ 8 ∷ 11 ∷ 14 ∷ 17 ∷ []), InvalidDigit)
+    ∷ (list_all (λ k. has_two_digits b k) (0 ∷ 2 ∷ 5 ∷ 8 ∷ 11 ∷ 14 ∷ 17 ∷ []), InvalidDigit)
     ∷ (is_valid_date_time (date_time_of b), OutOfRange)
     ∷ ((length (fraction_part b) == 0) || (slice_index (fraction_part b) 0 == byte "."), InvalidFormat)
     ∷ (all_ascii_digits (drop 1 (fraction_part b)), InvalidDigit) ∷ [])
@@ -59,7 +59,8 @@ unfolding timestamps_on_literals
 any_checks b = (refl, refl)
 
 any_parts : (b : List ℕ) (k : ℕ) (x : _) (y m d : ℕ)
-    → (has_two b k ≡ (is_ascii_digit (slice_index b k) && is_ascii_digit (slice_index b (k + 1))))
+    → (has_two_digits b k
+    ≡ (is_ascii_digit (slice_index b k) && is_ascii_digit (slice_index b (k + 1))))
     × (is_valid_date_time x ≡ (is_valid x.date.year x.date.month x.date.day && nat_le x.hour 23
     && nat_le x.minute 59 && nat_le x.second 60))
     × (is_valid y m d ≡ ((nat_le 1970 y && nat_le y 9999) && (nat_le 1 m && nat_le m 12)

@@ -1,7 +1,7 @@
 //! Limits, times and offsets of errors: callers that parse and print durations.
 
 ghost use Rattle.std.specs.Prelude.{◌≡◌, ◌+◌, ◌*◌, ◌<◌, ◌≤◌, ◌↔◌, ℕ, List, chars, true, IfSome, IfOk, IsSome, IsTrue, Ok};
-ghost use Rattle.humantime.specs.Prelude.{Accepted, IsCanonicalOf, IsCanonicalText, PointsInto, duration_end, text_result_view, fault_of, nanos_per_second};
+ghost use Rattle.humantime.specs.Prelude.{Accepted, CanonicalizesTo, IsCanonicalText, PointsInto, duration_end, text_result_view, fault_of, nanos_per_second};
 
 use humantime::{Duration, DurationError, StdDuration, canonical, format_duration, parse_duration};
 
@@ -63,7 +63,7 @@ pub fn points_into(text: &str) -> bool
 
 /// Returns the canonical string of a duration, or its first error.
 pub fn normalized<'a, 'b>(s: &'a str, buf: &'b mut [u8; 64]) -> Result<&'b str, DurationError<'a>>
-    ensures { (t : List ℕ) → (text_result_view result ≡ Ok t) ↔ IsCanonicalOf s.now t }
+    ensures { (t : List ℕ) → (text_result_view result ≡ Ok t) ↔ CanonicalizesTo s.now t }
 {
     canonical(s, buf)
 }

@@ -5,7 +5,7 @@ ghost use Rattle.std.specs.Prelude.{◌≡◌, ◌≢◌, ◌+◌, ◌≤◌, �
 ghost use Rattle.std.specs.Ordering.{int_cmp, is_lt};
 ghost use Rattle.humantime.specs.Laws.{IsOutcome, IsZeroOrSpans};
 ghost use Rattle.humantime.specs.Timestamps.{moment_of};
-ghost use Rattle.humantime.specs.Prelude.{Accepted, AcceptedWithZeros, AllHaveRoom, AreCounts, AreItems, AreReordered, ExactlyOne, Fault, Fields, HasFault, IsCanonicalOf, IsCanonicalText, IsMarked, IsPrintable, IsPrinted, IsStrict, IsStrictMoment, IsWeak, IsWeakMoment, Items, NumberOverflow, Reads, SpanView, SpelledSpan, WithinLimits, additions, bare_zero, cut, canonical_answer, duration_answer, duration_text, first_failed, older_additions, printed_text, result_view, strict_checks, value, weak_answer, weak_checks, without_whitespace};
+ghost use Rattle.humantime.specs.Prelude.{Accepted, AcceptedWithZeros, AllHaveRoom, AreCounts, AreItems, AreReordered, ExactlyOne, Fault, Fields, HasFault, CanonicalizesTo, IsCanonicalText, HasTAndZone, IsPrintable, IsPrinted, IsStrict, IsStrictMoment, IsWeak, IsWeakMoment, Items, NumberOverflow, Reads, SpanView, SpelledSpan, WithinLimits, additions, bare_zero, cut, canonical_answer, duration_answer, duration_text, first_failed, older_additions, printed_text, result_view, strict_checks, value, weak_answer, weak_checks, without_whitespace};
 
 use humantime::laws::{
     canonical_again, joined, one_outcome, one_stamp_outcome, printed_bounds,
@@ -108,13 +108,14 @@ pub fn looks_same(a: StdDuration, b: StdDuration) -> bool
 /// it always is. It has the same value.
 pub fn is_canonical_twice(text: &str) -> bool
     ensures same { result ≡ true }
-    ensures some { (v : ℕ) → Accepted (chars text.now) v → (t : List ℕ) × IsCanonicalOf text.now t }
-    ensures value { (v : ℕ) (t : List ℕ) → Accepted (chars text.now) v → IsCanonicalOf text.now t
+    ensures some { (v : ℕ) → Accepted (chars text.now) v → (t : List ℕ)
+        × CanonicalizesTo text.now t }
+    ensures value { (v : ℕ) (t : List ℕ) → Accepted (chars text.now) v → CanonicalizesTo text.now t
         → Accepted (chars t) v }
-    ensures again { (t : List ℕ) (twice : List ℕ) → IsCanonicalOf text.now t
-        → (IsCanonicalOf t twice ↔ (twice ≡ t)) }
+    ensures again { (t : List ℕ) (twice : List ℕ) → CanonicalizesTo text.now t
+        → (CanonicalizesTo t twice ↔ (twice ≡ t)) }
     ensures text { (t : List ℕ) → (canonical_answer (chars text.now) ≡ Ok t)
-        ↔ IsCanonicalOf text.now t }
+        ↔ CanonicalizesTo text.now t }
     ensures reads { (v : ℕ) (t : List ℕ) → duration_answer (chars text.now) ≡ Ok v
         → canonical_answer (chars text.now) ≡ Ok t → duration_answer (chars t) ≡ Ok v }
     ensures fault { (e : Fault) → (canonical_answer (chars text.now) ≡ Err e)
@@ -213,7 +214,7 @@ pub fn in_both_forms(text: &str) -> (Parsed, Parsed)
 
 /// Returns `true` if a string has a `T` and a zone.
 pub fn is_marked(text: &str) -> bool
-    ensures { IsTrue result ↔ IsMarked text.now }
+    ensures { IsTrue result ↔ HasTAndZone text.now }
 {
     let bytes = text.as_bytes();
     bytes.len() > 10 && bytes[10] == b'T' && (bytes.ends_with(b"Z") || bytes.ends_with(b"+00:00"))
@@ -221,11 +222,12 @@ pub fn is_marked(text: &str) -> bool
 
 /// Parses a string in the strict format, which is the weak format with a `T` and a zone.
 pub fn strict_moment(text: &str) -> Parsed
-    ensures parts { (f : Fields) → IsStrict text.now f ↔ (IsMarked text.now × IsWeak text.now f) }
+    ensures parts { (f : Fields) → IsStrict text.now f
+        ↔ (HasTAndZone text.now × IsWeak text.now f) }
     ensures moment { (t : ℤ) → IsStrictMoment text.now t
-        ↔ (IsMarked text.now × IsWeakMoment text.now t) }
+        ↔ (HasTAndZone text.now × IsWeakMoment text.now t) }
     ensures answer { (t : ℤ) → (result ≡ Ok t)
-        ↔ (IsMarked text.now × (weak_answer text.now ≡ Ok t)) }
+        ↔ (HasTAndZone text.now × (weak_answer text.now ≡ Ok t)) }
 {
     strict_is_weak(text);
     parse_rfc3339(text)

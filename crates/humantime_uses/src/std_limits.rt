@@ -3,7 +3,7 @@
 ghost use Rattle.std.specs.Prelude.{◌≡◌, ◌≢◌, ◌+◌, ◌*◌, ◌/◌, ◌%◌, ◌<◌, ◌≤◌, ◌⊎◌, ◌↔◌, ◌+ℤ◌, ◌≤ℤ◌, ℤ, chars, pos, slice_range, option_map, Err, IfSome, IsNone, IsOk, IsTrue, Some, SomeIff};
 ghost use Rattle.std.specs.Prelude.{ℕ};
 ghost use Rattle.std.specs.Time.{FitsClock, instant_nanos};
-ghost use Rattle.humantime.specs.Prelude.{Fault, duration_answer, fault_of, moment_end, place_of};
+ghost use Rattle.humantime.specs.Prelude.{Fault, duration_answer, fault_of, moment_end, fault_offset};
 ghost use Rattle.humantime.specs.Prelude.{duration_end};
 ghost use Rattle.humantime_std.specs.Located.{IsFaultRange, IsRangeIn, weak_error};
 ghost use Rattle.humantime_std.specs.Schedule.{IsDue, IsNextRun, IsMonthlyDue, IsNextMonthlyRun};
@@ -149,7 +149,7 @@ pub fn wrong_part(text: &str) -> Option<&str>
 
 /// Returns the offset of an error, if it has one.
 pub fn offset_of_error(error: &DurationError<'_>) -> Option<usize>
-    ensures { result ≡ place_of (fault_of error.now) }
+    ensures { result ≡ fault_offset (fault_of error.now) }
 {
     error_offset(error)
 }

@@ -3,9 +3,9 @@
 ghost use Rattle.std.specs.Prelude.{◌≡◌, ◌+◌, ◌<◌, ◌≤◌, ◌↔◌, IsSome, IfSome, IfNone, option_map, ◌++◌, take, drop, codes, Ok};
 ghost use Rattle.std.specs.Borrow.{sem};
 ghost use Rattle.std.specs.Str.{IsUtf8};
-ghost use Rattle.humantime.specs.Prelude.{DisplaysMoment, IsDate, IsPrintable, IsPrinted, KeptAtNone, cut, nano_of, places_of, printed_text, strict_answer};
+ghost use Rattle.humantime.specs.Prelude.{DisplaysMoment, IsDate, IsPrintable, IsPrinted, UnchangedOnNone, cut, nano_of, places_of, printed_text, strict_answer};
 ghost use Rattle.humantime.specs.Timestamps.{two_digits, date_time_text, fields_text};
-ghost use Rattle.humantime.specs.PrivateFunctions.{IsSecondOf};
+ghost use Rattle.humantime.specs.PrivateFunctions.{IsDateAndSecondOf};
 ghost use Rattle.humantime.specs.TimestampResults.{printed_fields};
 
 use crate::buffer::str_prefix;
@@ -225,7 +225,7 @@ impl Rfc3339Timestamp {
         ensures answer { option_map (λ t. t.now) result ≡ printed_text self.now }
         ensures reads_back { IfSome result
             (λ t. strict_answer t.now ≡ Ok (cut self.now.moment self.now.places)) }
-        ensures* unchanged { sem 𝓛 (KeptAtNone 30 buf.entry result) }
+        ensures* unchanged { sem 𝓛 (UnchangedOnNone 30 buf.entry result) }
     {
         let len = self.write(buf);
         text_if_any(buf, len)
@@ -249,7 +249,7 @@ impl Rfc3339Timestamp {
     /// front of `buf`. Returns its length in bytes.
     #[inline(always)]
     fn write_parts(&self, date: Date, second_of_day: u32, buf: &mut [u8; 30]) -> usize
-        requires { IsSecondOf date second_of_day self.now.moment }
+        requires { IsDateAndSecondOf date second_of_day self.now.moment }
         ensures fits { result ≤ 30 }
         ensures text { take result buf.new ≡ fields_text (printed_fields date second_of_day
             (nano_of self.now.moment) self.now.places) }
@@ -311,7 +311,7 @@ fn text_if_any(buf: &[u8; 30], len: Option<usize>) -> Option<&str>
 #[inline(always)]
 fn date_and_time(time: SystemTime) -> Option<(Date, u32)>
     ensures within { IsSome result ↔ IsPrintable time }
-    ensures value { IfSome result (λ x. IsSecondOf x.0 x.1 time) }
+    ensures value { IfSome result (λ x. IsDateAndSecondOf x.0 x.1 time) }
 {
     let secs = u64::try_from(time.unix_seconds()).ok()?;
     let day = u32::try_from(secs / SECONDS_PER_DAY).ok()?;

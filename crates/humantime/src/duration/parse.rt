@@ -2,10 +2,11 @@
 
 ghost use Rattle.std.specs.Prelude.{◌≡◌, ◌≤◌, ◌*◌, ◌/◌, ◌^◌, if◌then◌else◌, IsTrue, None, SomeIff, chars, map, IfErr};
 ghost use Rattle.humantime.specs.Characters.{max_fraction_digits, u64_max};
-ghost use Rattle.humantime.specs.Durations.{fits_u64, is_whole_part, size, times};
+ghost use Rattle.humantime.specs.Durations.{fits_u64, is_exact_part, size, times};
 ghost use Rattle.humantime.specs.PrivateFunctions;
 ghost use Rattle.humantime.specs.PrivateFunctions.{spelled_in};
-ghost use Rattle.humantime.specs.Walks.{add, add_span, sum_spans};
+ghost use Rattle.humantime.specs.Walks;
+ghost use Rattle.humantime.specs.Walks.{add, sum_spans};
 ghost use Rattle.humantime.specs.Prelude.{AreItems, IsDurationAnswer, PointsInto, items_left, result_view, text_of};
 ghost use Rattle.humantime.specs.DurationResults.{item_views, span_in};
 
@@ -18,7 +19,7 @@ use crate::value::StdDuration;
 
 /// Returns `sum` plus `count` times `one`, or `None` on overflow.
 #[inline(always)]
-fn add_times(sum: StdDuration, one: Quantity, count: u64) -> Option<StdDuration>
+fn add_number(sum: StdDuration, one: Quantity, count: u64) -> Option<StdDuration>
     ensures { result ≡ (if fits_u64 (count * size one) then add sum (times count one) else None) }
 {
     match one {
@@ -30,9 +31,9 @@ fn add_times(sum: StdDuration, one: Quantity, count: u64) -> Option<StdDuration>
 /// Returns the fraction times `factor`, or `None` if that is not a whole number or the significand
 /// times `factor` overflows.
 #[tactic(auto, using(crate::proofs::SpanParts::power_positive))]
-fn part_of(fraction: Fraction, factor: u64) -> Option<u64>
+fn fraction_times(fraction: Fraction, factor: u64) -> Option<u64>
     requires { fraction.exponent ≤ max_fraction_digits }
-    ensures { SomeIff result (IsTrue (is_whole_part factor fraction.significand fraction.exponent))
+    ensures { SomeIff result (IsTrue (is_exact_part factor fraction.significand fraction.exponent))
         (fraction.significand * factor / 10 ^ fraction.exponent) }
 {
     let scaled = fraction.significand.checked_mul(factor)?;
@@ -45,14 +46,15 @@ fn part_of(fraction: Fraction, factor: u64) -> Option<u64>
 ///
 /// If `one` is `None`, as for nanoseconds, which have no fractions, the result is `None` unless the
 /// fraction is zero.
-fn add_part(sum: StdDuration, one: Option<Quantity>, fraction: Fraction) -> Option<StdDuration>
+fn add_fraction(sum: StdDuration, one: Option<Quantity>, fraction: Fraction) -> Option<StdDuration>
     requires { fraction.exponent ≤ max_fraction_digits }
-    ensures { result ≡ PrivateFunctions.add_part sum one fraction.significand fraction.exponent }
+    ensures { result ≡ PrivateFunctions.add_fraction sum one fraction.significand
+        fraction.exponent }
 {
     match one {
         None => (fraction.exponent == 0).then_some(sum),
-        Some(Quantity::Nanos(size)) => sum.checked_add_nanos(part_of(fraction, size)?),
-        Some(Quantity::Seconds(size)) => sum.checked_add_secs(part_of(fraction, size)?),
+        Some(Quantity::Nanos(size)) => sum.checked_add_nanos(fraction_times(fraction, size)?),
+        Some(Quantity::Seconds(size)) => sum.checked_add_secs(fraction_times(fraction, size)?),
     }
 }
 
@@ -60,15 +62,15 @@ fn add_part(sum: StdDuration, one: Option<Quantity>, fraction: Fraction) -> Opti
 /// overflow, or if the fraction is not a whole number of nanoseconds or of seconds.
 #[inline(always)]
 #[tactic(auto, using(crate::proofs::Slices::amounts), unfolding(crate::specs::Walks::add_span))]
-fn add_amount(total: StdDuration, span: Span) -> Option<StdDuration>
-    ensures { result ≡ add_span total (spelled_in span.entry) }
+fn add_span(total: StdDuration, span: Span) -> Option<StdDuration>
+    ensures { result ≡ Walks.add_span total (spelled_in span.entry) }
 {
-    // `add_times` is called in both arms, so that `fraction` is tested once.
+    // `add_number` is called in both arms, so that `fraction` is tested once.
     match span.number.fraction {
-        None => add_times(total, span.scale.whole, span.number.value),
+        None => add_number(total, span.scale.one, span.number.value),
         Some((fraction, _)) => {
-            let sum = add_times(total, span.scale.whole, span.number.value)?;
-            add_part(sum, span.scale.part, fraction)
+            let sum = add_number(total, span.scale.one, span.number.value)?;
+            add_fraction(sum, span.scale.for_fractions, fraction)
         }
     }
 }
@@ -115,14 +117,14 @@ pub fn spans(s: &str) -> SpanIter<'_>
 #[tactic(auto, using(crate::proofs::Sums::sums), unfolding(crate::specs::Walks::sum_spans))]
 fn sum_of<'a>(text: &'a str) -> Result<StdDuration, DurationError<'a>>
     ensures value { result_view result ≡ sum_spans 0 (map span_in (item_views (chars text.now))) }
-    ensures place { IfErr result (PointsInto text.now) }
+    ensures offsets { IfErr result (PointsInto text.now) }
 {
     let mut total = StdDuration::ZERO;
     let mut items = spans(text);
     while let Some(item) = items.next() {
         // `match` and not `?`: for `?`, the kit's own back end emits a call that copies the error.
         match item {
-            Ok(span) => match add_amount(total, span) {
+            Ok(span) => match add_span(total, span) {
                 Some(sum) => total = sum,
                 None => return Err(DurationError::NumberOverflow),
             },

@@ -6,7 +6,7 @@ ghost use Rattle.std.specs.Str.{IsUtf8};
 ghost use Rattle.std.proofs.Props.{props};
 ghost use Rattle.std.specs.Borrow.{sem};
 ghost use Rattle.std.specs.Result.{result_map_both};
-ghost use Rattle.humantime.specs.Prelude.{Fault, HasFault, IsCanonicalOf, IsCanonicalText, KeptAtErr, PointsInto, canonical_answer};
+ghost use Rattle.humantime.specs.Prelude.{Fault, HasFault, CanonicalizesTo, IsCanonicalText, UnchangedOnErr, PointsInto, canonical_answer};
 ghost use Rattle.humantime.specs.Prelude.{duration_answer, duration_end, duration_text, fault_of, text_result_view};
 
 use crate::buffer::str_prefix;
@@ -303,11 +303,11 @@ impl fmt::Display for FormattedDuration {
 /// assert_eq!(rt; other, [7; 64]);
 /// ```
 pub fn canonical<'a, 'b>(s: &'a str, buf: &'b mut [u8; 64]) -> Result<&'b str, DurationError<'a>>
-    ensures text { (t : List ℕ) → (text_result_view result ≡ Ok t) ↔ IsCanonicalOf s.now t }
+    ensures text { (t : List ℕ) → (text_result_view result ≡ Ok t) ↔ CanonicalizesTo s.now t }
     ensures fault { (e : Fault) → (text_result_view result ≡ Err e) ↔ HasFault (chars s.now) e }
     ensures answer { text_result_view result ≡ canonical_answer (chars s.now) }
-    ensures place { IfErr result (PointsInto s.now) }
-    ensures* unchanged { sem 𝓛 (KeptAtErr 64 buf.entry result) }
+    ensures offsets { IfErr result (PointsInto s.now) }
+    ensures* unchanged { sem 𝓛 (UnchangedOnErr 64 buf.entry result) }
 {
     let len = write_canonical(s, buf);
     text_or_error(len, buf)
@@ -338,7 +338,7 @@ fn write_canonical<'a>(s: &'a str, buf: &mut [u8; 64]) -> Result<usize, Duration
     ensures prefix { IfOk result (λ len. (len ≤ 64) × IsUtf8 (take len buf.new)) }
     ensures answer { result_map_both (λ len. take len buf.new) fault_of result
         ≡ canonical_answer (chars s.now) }
-    ensures place { IfErr result (PointsInto s.now) }
+    ensures offsets { IfErr result (PointsInto s.now) }
 {
     let duration = parse_duration(s)?;
     Ok(write_duration(duration, buf))

@@ -10,9 +10,9 @@ ghost use Rattle.std.specs.Prelude.{IfOk, MatchResult, length};
 ghost use Rattle.humantime.specs.Characters.{begins, drop_while, is_digit, is_letter, is_whitespace, offset_of, take_while};
 ghost use Rattle.humantime.specs.DurationErrors.{IsCharStartIn, after_point, IsRangeIn, PointsInto};
 ghost use Rattle.humantime.specs.PrivateFunctions;
-ghost use Rattle.humantime.specs.PrivateFunctions.{IsAfterWhitespace, IsNumberAt, number_view, read_view, span_result};
+ghost use Rattle.humantime.specs.PrivateFunctions.{IsAfterWhitespace, IsNumberAt, number_view, read_view, read_span_view};
 ghost use Rattle.humantime.specs.PrivateTypes.{IsTail, parts_of};
-ghost use Rattle.humantime.specs.Walks.{may_be_word};
+ghost use Rattle.humantime.specs.Walks.{at_letter_or_end};
 
 use crate::duration::digits::{Fraction, push_digit};
 use crate::duration::error::DurationError;
@@ -180,7 +180,7 @@ fn read_fraction(text: &str) -> Option<((Fraction, &str), &str)>
 /// Returns the letters (ASCII, `µ` or `μ`) at the start of the string, if any, and the rest.
 #[inline(always)]
 #[tactic(auto, using(crate::proofs::Offsets::letters))]
-fn split_word(text: &str) -> (&str, &str)
+fn read_word(text: &str) -> (&str, &str)
     ensures word { chars result.0.now ≡ take_while is_letter (chars text.now) }
     ensures read { chars result.1.now ≡ drop_while is_letter (chars text.now) }
     ensures whole { text.now ≡ result.0.now ++ result.1.now }
@@ -206,9 +206,9 @@ fn split_word(text: &str) -> (&str, &str)
 #[inline(always)]
 #[tactic(auto, using(crate::proofs::Offsets::rests))]
 fn is_bare_point(fraction: Fraction, rest: &str) -> bool
-    ensures { result ≡ (fraction.len == 0 && may_be_word (chars rest.now)) }
+    ensures { result ≡ (fraction.len == 0 && at_letter_or_end (chars rest.now)) }
 {
-    fraction.len == 0 && (rest.is_empty() || !split_word(rest).0.is_empty())
+    fraction.len == 0 && (rest.is_empty() || !read_word(rest).0.is_empty())
 }
 
 /// Returns the string after the word of a span, without the whitespace character at its start, if
@@ -259,10 +259,10 @@ fn offset_in(text: &str, rest: &str) -> usize
 pub(crate) fn read_span<'a>(text: &'a str, rest: &'a str) -> ReadSpan<'a>
     requires tail { IsTail text.now rest.now }
     requires nonempty { length rest.now ≢ 0 }
-    ensures read { span_result result
+    ensures read { read_span_view result
         ≡ PrivateFunctions.read_span (chars text.now) (chars rest.now) }
     ensures rest { IfOk result (λ x. IsTail text.now x.1.now) }
-    ensures places { MatchResult result (λ x. IsRangeIn text.now x.0.start x.0.end)
+    ensures offsets { MatchResult result (λ x. IsRangeIn text.now x.0.start x.0.end)
         (PointsInto text.now) }
 {
     if !begins_with_digit(rest) {
@@ -303,13 +303,13 @@ fn complete_span<'a>(
 ) -> ReadSpan<'a>
     requires tail { IsTail text.now rest.now }
     requires number { IsNumberAt rest.now number after_digits.now }
-    ensures read { span_result result
+    ensures read { read_span_view result
         ≡ PrivateFunctions.read_span (chars text.now) (chars rest.now) }
     ensures rest { IfOk result (λ x. IsTail text.now x.1.now) }
-    ensures places { MatchResult result (λ x. IsRangeIn text.now x.0.start x.0.end)
+    ensures offsets { MatchResult result (λ x. IsRangeIn text.now x.0.start x.0.end)
         (PointsInto text.now) }
 {
-    let (unit, after_word) = split_word(after_digits);
+    let (unit, after_word) = read_word(after_digits);
     // `1foo~` is wrong at the `~`, so what follows the word is tested before the word.
     let Some(after_span) = skip_span_end(after_word) else {
         return Err(DurationError::InvalidCharacter(offset_in(text, after_word)));

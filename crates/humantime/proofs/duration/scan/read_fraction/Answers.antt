@@ -1,4 +1,4 @@
-use Rattle.humantime.specs.Characters.{begins, is_numeric, without_trailing_zeros}
+use Rattle.humantime.specs.Characters.{begins, in_number, without_trailing_zeros}
 use Rattle.humantime.specs.DurationErrors.{number_of}
 use Rattle.std.proofs.Common.{◌≡◌, ◌+◌, ◌++◌, ◌∷◌, [], chars, drop, false, arith, rules, length-append, append-nil, append_assoc}
 use Rattle.std.proofs.lemmas.Bool.Decides.{nat_tests}
@@ -49,7 +49,7 @@ returns-in_err-fraction-clause-read c =
 pub returns-clause-read : goal.returns-clause-read
 returns-clause-read c =
     let i = c.loop-at.invariant in
-    let ended : begins is_numeric (chars (drop c.loop-at.at c.args.text.now)) ≡ false =
+    let ended : begins in_number (chars (drop c.loop-at.at c.args.text.now)) ≡ false =
     search (rules, no_chars_at, stops_here) in
-    let front = front_is is_numeric c.args.text.now c.loop-at.at c.utf8.text i.read.place in
+    let front = front_is in_number c.args.text.now c.loop-at.at c.utf8.text i.read.place in
     grind (arith, common_steps, nat_tests, ended, append-nil, front, i.read, i.digits.parts, i.digits.few)

@@ -2,7 +2,7 @@ use Rattle.std.proofs.Common.{◌≡◌, chars, drop, false, arith, rules}
 use Rattle.std.proofs.lemmas.Bool.Decides.{nat_tests}
 use Rattle.std.proofs.lemmas.Grind.{common_steps}
 use Rattle.std.proofs.lemmas.Str.{digit_value_digit, IsCharBoundary-start}
-use Rattle.humantime.specs.Characters.{begins, is_numeric}
+use Rattle.humantime.specs.Characters.{begins, in_number}
 use Rattle.humantime.proofs.Characters.{digit_is}
 use Rattle.humantime.proofs.SpanParts.{first_digit, digit_range, read_digit, read_whitespace, stops_here, value_grows}
 use Rattle.humantime.proofs.Offsets.{front_is, no_chars_at}
@@ -42,16 +42,16 @@ returns-in_err-value-clause-read c =
 
 pub invariant_of-number-clause-read : goal.invariant_of-number-clause-read
 invariant_of-number-clause-read c =
-    let ended : begins is_numeric (chars (drop c.loop-at.at c.args.text.now)) ≡ false =
+    let ended : begins in_number (chars (drop c.loop-at.at c.args.text.now)) ≡ false =
     search (rules, no_chars_at, stops_here) in
     let front =
-    front_is is_numeric c.args.text.now c.loop-at.at c.utf8.text c.loop-at.invariant.place in
+    front_is in_number c.args.text.now c.loop-at.at c.utf8.text c.loop-at.invariant.place in
     grind (arith, common_steps, nat_tests, ended, front, c.loop-at.invariant)
 
 pub returns-clause-read : goal.returns-clause-read
 returns-clause-read c =
-    let ended : begins is_numeric (chars (drop c.loop-at.at c.args.text.now)) ≡ false =
+    let ended : begins in_number (chars (drop c.loop-at.at c.args.text.now)) ≡ false =
     search (rules, no_chars_at, stops_here) in
     let front =
-    front_is is_numeric c.args.text.now c.loop-at.at c.utf8.text c.loop-at.invariant.place in
+    front_is in_number c.args.text.now c.loop-at.at c.utf8.text c.loop-at.invariant.place in
     grind (arith, common_steps, nat_tests, ended, front, c.loop-at.invariant)

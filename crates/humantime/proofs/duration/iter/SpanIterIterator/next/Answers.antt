@@ -6,7 +6,7 @@ use Rattle.humantime.proofs.duration.iter.SpanIterIterator.next.Goals as goal
 
 pub returns-in-Ok-clause-steps : goal.returns-in-Ok-clause-steps
 returns-in-Ok-clause-steps c =
-    let shorter = step_shorter _ _ _ _ c.skip_whitespace-rest.utf8 c.in-Ok.ensures.rest.utf8 c.in-Ok.ensures.read in
+    let shorter = step_shorter _ _ _ _ c.skip_whitespace-rest.utf8 c.in-Ok.ensures.rest.rest_utf8 c.in-Ok.ensures.read in
     let later : (length c.in-Ok.after_span.now == length c.args.self.now.text.now) ≡ false =
     ne_eqb _ _ (λ e. omega (
       arith,
@@ -18,7 +18,7 @@ returns-in-Ok-clause-steps c =
       rw (c.if-self.false, later, ← c.skip_whitespace-rest.ensures.read)
           (step_goes _ _ _ _ _ c.in-Ok.ensures.read),
       refl,
-      c.in-Ok.ensures.places,
+      c.in-Ok.ensures.offsets,
     )
 
 pub returns-in-Ok-clause-goes : goal.returns-in-Ok-clause-goes

@@ -1,6 +1,6 @@
 use Rattle.std.proofs.Common.{◌≡◌, ◌-◌, length, drop, IsCharBoundary, chars}
 use Rattle.humantime.specs.Characters.{drop_while, is_letter}
-use Rattle.humantime.proofs.duration.scan.split_word.Given as goal
+use Rattle.humantime.proofs.duration.scan.read_word.Given as goal
 
 abbrev pub invariant-loop-at : goal.invariant-loop-at
 invariant-loop-at l = record {
