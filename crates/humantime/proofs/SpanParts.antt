@@ -74,7 +74,7 @@ digits_fit f ds h =
 
 -- There are no more digits before the trailing zeros than in all.
 pub fewer : (f : Fraction) (ds : List ℕ) → HasDigits f ds → f.exponent ≤ f.len
-fewer f ds h = grind (arith, h.parts, significant_shorter)
+fewer f ds h = grind (arith, h.is, significant_shorter)
 
 -- Another digit follows the zeros.
 pub fraction_extended : (f : Fraction) (ds : List ℕ) (c p : ℕ) → HasDigits f ds → is_digit c ≡ true
@@ -94,9 +94,9 @@ fraction_extended f ds c p h is some few power =
     let sum : 10 ^ (f.len + 1) ≡ 10 ^ f.exponent * 10 ^ k =
     ap (10 ^◌) (omega (arith, within)) ∙ pow-add 10 f.exponent k in
     record {
-      parts = grind (
+      is = grind (
         arith,
-        h.parts,
+        h.is,
         kept,
         power,
         value,

@@ -16,7 +16,7 @@ use Rattle.humantime.specs.DurationErrors.{fault_of, number_of, after_number, af
 use Rattle.humantime.specs.Prelude.{IsDate, SpanView, day_of, span_view}
 use Rattle.humantime.specs.DurationResults.{spelled, view_at}
 use Rattle.humantime.specs.Walks.{fault_at, has_bare_point, add}
-use Rattle.humantime.specs.PrivateTypes.{counted, IsTail}
+use Rattle.humantime.specs.PrivateTypes.{FractionView, fraction_view, fraction_with, IsTail}
 use Rattle.humantime.specs.declared.calendar.Date.{Date}
 use Rattle.humantime.specs.declared.date.error.TimestampError.{TimestampError}
 use Rattle.humantime.specs.declared.date.error.TimestampError.TheVariants.{InvalidDigit, InvalidFormat}
@@ -59,26 +59,42 @@ abbrev pub IsAfterWhitespace : List ℕ → ℕ → Option ℕ → Type 0
 IsAfterWhitespace text at result = SomeIff result (0 < whitespace_len (chars (drop at text)))
     (at + whitespace_len (chars (drop at text)))
 
--- What a reader returned: the view of the value, and the characters of the rest.
-abbrev pub read_view : {A B : Type 0} → (A → B) → Option (A × Bor (List ℕ)) → Option (B × List ℕ)
+-- What a reader returns: a value and the rest of the text, or `None` if the value is too large.
+abbrev pub Read : Type 0 → Type 0
+Read A = Option (A × List ℕ)
+
+-- Returns the view of what a reader of the code returned: that of the value, and the characters of
+-- the rest.
+abbrev pub read_view : {A B : Type 0} → (A → B) → Option (A × Bor (List ℕ)) → Read B
 read_view view r = option_map (λ x. (view x.0, chars x.1.now)) r
 
 -- The text of a number, and that of its fraction, if any.
-abbrev pub number_view : Number → List ℕ × Option (List ℕ)
-number_view n = (chars n.text.now, option_map (λ f. chars f.1.now) n.fraction)
+pub record NumberView : Type 0 where
+  pub text : List ℕ
+  pub fraction : Option (List ℕ)
+
+-- Returns the view of a number.
+abbrev pub number_view : Number → NumberView
+number_view n = record {
+  text = chars n.text.now;
+  fraction = option_map (λ f. (fraction_view f).text) n.fraction;
+}
 
 -- Reads the number at the start of a text. A number that does not fit in a `u64` is too long.
-abbrev pub read_number : List ℕ → Option ((List ℕ × Option (List ℕ)) × List ℕ)
+abbrev pub read_number : List ℕ → Read NumberView
 read_number text =
     if nat_lt u64_max (decimal_value (number_of text)) then None
-    else Some ((take_while in_number text, None), after_number text)
+    else Some (record { text = take_while in_number text; fraction = None }, after_number text)
 
 -- Reads the digits of a fraction at the start of a text, if any. More than 19 before the trailing
 -- zeros are too long.
-abbrev pub read_fraction : List ℕ → Option (((ℕ × ℕ × ℕ) × List ℕ) × List ℕ)
+abbrev pub read_fraction : List ℕ → Read FractionView
 read_fraction text =
     if has_too_many_digits (Some (number_of text)) then None
-    else Some ((counted (number_of text), take_while in_number text), after_number text)
+    else Some (
+      record { fraction = fraction_with (number_of text); text = take_while in_number text },
+      after_number text,
+    )
 
 -- Returns a text without its first character if that is whitespace.
 abbrev pub after_one_whitespace : List ℕ → List ℕ
@@ -112,10 +128,10 @@ pub record IsNumberAt (rest : List ℕ) (number : Number) (after : List ℕ) : T
   pub digit : begins is_digit (chars rest) ≡ true
   pub digits_fit : digits_overflow (span_of (chars rest)) ≡ false
   pub no_bare_point : has_bare_point (chars rest) ≡ false
-  pub texts : number_view number ≡ (
-    take_while in_number (chars rest),
-    option_map (take_while in_number) (after_point (after_number (chars rest))),
-  )
+  pub texts : number_view number ≡ record {
+    text = take_while in_number (chars rest);
+    fraction = option_map (take_while in_number) (after_point (after_number (chars rest)));
+  }
   pub after_is : chars after ≡ after_fraction (chars rest)
   pub tail : IsTail rest after
 

@@ -5,28 +5,37 @@ use Rattle.std.specs.Borrow.{Bor}
 use Rattle.humantime.specs.declared.duration.digits.Fraction.{Fraction}
 use Rattle.humantime.specs.Characters.{decimal_value, digits, without_trailing_zeros, max_fraction_digits}
 
--- Returns a fraction as three numbers: the value of its digits without trailing zeros, their
--- number, and the number of all digits.
-abbrev pub counted : List ℕ → ℕ × ℕ × ℕ
-counted ds =
-    (decimal_value (without_trailing_zeros ds), length (without_trailing_zeros ds), length ds)
-
--- Returns the three numbers of a `Fraction` of the code.
-abbrev pub parts_of : Fraction → ℕ × ℕ × ℕ
-parts_of f = (f.significand, f.exponent, f.len)
+-- Returns the fraction with these digits: the value and the number of its digits without trailing
+-- zeros, and the number of all digits.
+abbrev pub fraction_with : List ℕ → Fraction
+fraction_with ds = record {
+  significand = decimal_value (without_trailing_zeros ds);
+  exponent = length (without_trailing_zeros ds);
+  len = length ds;
+}
 
 -- The fraction has these digits, at most 19 of them before the trailing zeros.
 pub record HasDigits (f : Fraction) (ds : List ℕ) : Type 0 where
-  pub parts : parts_of f ≡ counted ds
+  pub is : f ≡ fraction_with ds
   pub few : f.exponent ≤ max_fraction_digits
   pub fits : f.significand < 10 ^ f.exponent
 
--- The value is that of the digits of the text, and the numbers of the fraction, if any, are those
--- of the digits of its text.
-pub record IsNumberRead (text : List ℕ) (value : ℕ) (fraction : Option (Fraction × Bor (List ℕ))) : Type 0 where
+-- A fraction of the code, and the characters of its text.
+pub record FractionView : Type 0 where
+  pub fraction : Fraction
+  pub text : List ℕ
+
+-- Returns the view of a fraction and its text, as the code returns them.
+abbrev pub fraction_view : Fraction × Bor (List ℕ) → FractionView
+fraction_view f = record { fraction = f.0; text = chars f.1.now }
+
+-- The value is that of the digits of the text, and the fraction, if any, is the one with the digits
+-- of its text.
+pub record IsNumberRead (text : List ℕ) (value : ℕ)
+    (fraction : Option (Fraction × Bor (List ℕ))) : Type 0 where
   pub value_is : value ≡ decimal_value (digits (chars text))
-  pub fraction_is : option_map (λ f. parts_of f.0) fraction
-      ≡ option_map (λ f. counted (digits (chars f.1.now))) fraction
+  pub fraction_is : option_map (λ f. (fraction_view f).fraction) fraction
+      ≡ option_map (λ f. fraction_with (digits (fraction_view f).text)) fraction
 
 -- The text ends in the bytes of the rest, which is valid UTF-8.
 pub record IsTail (text rest : List ℕ) : Type 0 where

@@ -11,7 +11,7 @@ ghost use Rattle.humantime.specs.Characters.{begins, drop_while, is_digit, is_le
 ghost use Rattle.humantime.specs.DurationErrors.{IsCharStartIn, after_point, IsRangeIn, PointsInto};
 ghost use Rattle.humantime.specs.PrivateFunctions;
 ghost use Rattle.humantime.specs.PrivateFunctions.{IsAfterWhitespace, IsNumberAt, number_view, read_view, read_span_view};
-ghost use Rattle.humantime.specs.PrivateTypes.{IsTail, parts_of};
+ghost use Rattle.humantime.specs.PrivateTypes.{IsTail, fraction_view};
 ghost use Rattle.humantime.specs.Walks.{at_letter_or_end};
 
 use crate::duration::digits::{Fraction, push_digit};
@@ -157,7 +157,7 @@ fn skip_point(text: &str) -> Option<&str>
 #[inline(always)]
 #[tactic(auto, using(crate::proofs::Offsets::rests, crate::proofs::Characters::digit_is))]
 fn read_fraction(text: &str) -> Option<((Fraction, &str), &str)>
-    ensures read { read_view (λ f. (parts_of f.0, chars f.1.now)) result
+    ensures read { read_view fraction_view result
         ≡ PrivateFunctions.read_fraction (chars text.now) }
     ensures rest { IfSome result (λ x. IsTail text.now x.1.now) }
 {

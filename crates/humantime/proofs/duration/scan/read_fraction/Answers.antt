@@ -14,7 +14,7 @@ loop-at-init c =
     record {
       taken = [];
       read = grind (arith, IsCharBoundary-start);
-      digits = record { parts = grind arith; few = grind arith; fits = grind arith };
+      digits = record { is = grind arith; few = grind arith; fits = grind arith };
       few = omega arith;
     }
 
@@ -52,4 +52,4 @@ returns-clause-read c =
     let ended : begins in_number (chars (drop c.loop-at.at c.args.text.now)) ≡ false =
     search (rules, no_chars_at, stops_here) in
     let front = front_is in_number c.args.text.now c.loop-at.at c.utf8.text i.read.place in
-    grind (arith, common_steps, nat_tests, ended, append-nil, front, i.read, i.digits.parts, i.digits.few)
+    grind (arith, common_steps, nat_tests, ended, append-nil, front, i.read, i.digits.is, i.digits.few)
