@@ -54,7 +54,7 @@ joined_more : (t p : List ℕ) (ps : List (List ℕ)) → 0 < length p
 joined_more t p ps h = grind (arith, append_assoc)
 
 -- Counts that are written one by one are joined, if each suffix has a letter.
-one_by_one : (t ns : List ℕ) (ss : List Suffix) → AllByRecursion (λ s. 0 < length s.0) ss
+one_by_one : (t ns : List ℕ) (ss : List Suffix) → AllByRecursion (λ s. 0 < length s.unit) ss
     → with_counts t ns ss ≡ joined_after t (printed_counts ns ss)
 one_by_one t (n ∷ ns) (s ∷ ss) h =
     grind (
@@ -70,7 +70,7 @@ one_by_one t _ _ h = grind arith
 abbrev pub or_zero : List ℕ → List ℕ
 or_zero text = if length text == 0 then codes "0s" else text
 
-or_zero_joined : (ns : List ℕ) (ss : List Suffix) → AllByRecursion (λ s. 0 < length s.0) ss
+or_zero_joined : (ns : List ℕ) (ss : List Suffix) → AllByRecursion (λ s. 0 < length s.unit) ss
     → or_zero (joined_after [] (printed_counts ns ss)) ≡ joined_or_zero (printed_counts ns ss)
 or_zero_joined (n ∷ ns) (s ∷ ss) h =
     grind (arith, common_steps, nat_tests, length-append, (or_zero_joined ns ss h.1))
@@ -161,7 +161,7 @@ space = 32
 
 -- The word after a count of `n`, and the span of that count.
 abbrev pub word_for : ℕ → Suffix → List ℕ
-word_for n s = s.0 ++ cond (s.1 && nat_lt 1 n) (codes "s") []
+word_for n s = s.unit ++ cond (s.has_plural && nat_lt 1 n) (codes "s") []
 
 abbrev pub span_for : ℕ → Suffix → SpelledSpan
 span_for n s = record { number = decimal n; fraction = None; word = chars (word_for n s) }
@@ -217,7 +217,8 @@ Sizes _ _ m = ⊥
 
 -- The greatest length of this number of digits, the suffixes and a space after each.
 abbrev length_for : List (ℕ × Suffix) → List ℕ → ℕ
-length_for (u ∷ us) (k ∷ ks) = k + (length u.1.0 + cond u.1.1 1 0) + 1 + length_for us ks
+length_for (u ∷ us) (k ∷ ks) =
+    k + (length u.1.unit + cond u.1.has_plural 1 0) + 1 + length_for us ks
 length_for _ _ = 0
 
 -- The length with a space after each text.

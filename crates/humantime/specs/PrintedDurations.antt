@@ -13,8 +13,9 @@ use Rattle.humantime.specs.Durations.{Accepted}
 -- in nanoseconds.
 abbrev pub weights : List ℕ
 weights =
-    seconds_per_year * nanos_per_second ∷ seconds_per_month * nanos_per_second ∷ seconds_per_day * nanos_per_second
-    ∷ seconds_per_hour * nanos_per_second ∷ seconds_per_minute * nanos_per_second ∷ nanos_per_second
+    seconds_per_year * nanos_per_second ∷ seconds_per_month * nanos_per_second
+    ∷ seconds_per_day * nanos_per_second ∷ seconds_per_hour * nanos_per_second
+    ∷ seconds_per_minute * nanos_per_second ∷ nanos_per_second
     ∷ nanos_per_milli ∷ nanos_per_micro ∷ 1 ∷ []
 
 -- Returns the sum of the counts, each multiplied by its weight.
@@ -32,30 +33,39 @@ pub record AreCounts (d : ℕ) (counts : List ℕ) : Type 0 where
       → weighted_sum weights others ≡ d
       → IsTrue (is_le (slice_cmp nat_cmp others counts))
 
--- A suffix is the text that follows a count, and whether it takes an `s` in the plural.
-abbrev pub Suffix : Type 0
-Suffix = List ℕ × Bool
+-- A suffix is the unit that follows a count, and whether an `s` follows the unit of a count above 1.
+pub record Suffix : Type 0 where
+  pub unit : List ℕ
+  pub has_plural : Bool
+
+-- The suffix of a unit that has a plural.
+abbrev pub with_plural : List ℕ → Suffix
+with_plural unit = record { unit = unit; has_plural = true }
+
+-- The suffix of a unit that has no plural.
+abbrev pub without_plural : List ℕ → Suffix
+without_plural unit = record { unit = unit; has_plural = false }
 
 -- The suffixes of the nine counts.
 abbrev pub suffixes : List Suffix
 suffixes =
-    (codes "year", true) ∷ (codes "month", true) ∷ (codes "day", true) ∷ (codes "h", false)
-    ∷ (codes "m", false) ∷ (codes "s", false)
-    ∷ (codes "ms", false) ∷ (micro_suffix, false) ∷ (codes "ns", false) ∷ []
+    with_plural (codes "year") ∷ with_plural (codes "month") ∷ with_plural (codes "day")
+    ∷ without_plural (codes "h") ∷ without_plural (codes "m") ∷ without_plural (codes "s")
+    ∷ without_plural (codes "ms") ∷ without_plural micro_suffix ∷ without_plural (codes "ns") ∷ []
 
 -- Returns a count in decimal with its suffix.
 abbrev pub printed_count : ℕ → Suffix → List ℕ
-printed_count n s = decimal n ++ s.0 ++ (if s.1 && nat_lt 1 n then codes "s" else [])
+printed_count n s = decimal n ++ s.unit ++ (if s.has_plural && nat_lt 1 n then codes "s" else [])
 
 -- Returns the texts of the counts that are not zero, each with its suffix.
 abbrev pub printed_counts : List ℕ → List Suffix → List (List ℕ)
-printed_counts counts ends =
-    map (λ c. printed_count c.0 c.1) (filter (λ c. nat_lt 0 c.0) (zip counts ends))
+printed_counts counts units =
+    map (λ c. printed_count c.0 c.1) (filter (λ c. nat_lt 0 c.0) (zip counts units))
 
 -- Joins texts with single spaces, and returns `0s` if there are none.
 abbrev pub joined_or_zero : List (List ℕ) → List ℕ
 joined_or_zero [] = codes "0s"
-joined_or_zero ps = join_with_byte (byte " ") ps
+joined_or_zero texts = join_with_byte (byte " ") texts
 
 -- The canonical text of `d` nanoseconds is its nonzero counts with suffixes, joined with single
 -- spaces, or `0s`.

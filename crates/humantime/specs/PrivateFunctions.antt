@@ -195,10 +195,12 @@ joined_after (b ∷ bs) ps = join_with_byte (byte " ") ((b ∷ bs) ∷ ps)
 -- Returns an upper bound for the number of bytes of a count: its digits, its suffix and the `s` of
 -- the plural.
 abbrev pub most_bytes : ℕ → Suffix → ℕ
-most_bytes count suffix = length (decimal count) + length suffix.0 + (if suffix.1 then 1 else 0)
+most_bytes count suffix =
+    length (decimal count) + length suffix.unit + (if suffix.has_plural then 1 else 0)
 
 -- The count was appended, after a space if it is not the first one. A count of zero is left out.
 pub record AppendsCount (old new : Writer) (count : ℕ) (suffix : Suffix) : Type 0 where
-  pub has : HasWritten old new (joined_after (written old) (printed_counts (count ∷ []) (suffix ∷ [])))
+  pub has : HasWritten old new
+      (joined_after (written old) (printed_counts (count ∷ []) (suffix ∷ [])))
   pub end : new.end ≤ old.end + 1 + most_bytes count suffix
   pub first : old.end ≡ 0 → new.end ≤ most_bytes count suffix

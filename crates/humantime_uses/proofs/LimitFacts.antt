@@ -5,7 +5,7 @@ use Rattle.humantime.specs.Characters.{decimal_value, without_trailing_zeros}
 use Rattle.humantime.specs.DurationResults.{divided, duration_text}
 use Rattle.humantime.specs.Durations.{in_nanos, in_seconds, in_seconds_and_nanos, scale_of_word, whole_nanos, SpelledSpan, Reads, Accepted, AllHaveRoom, BareZero, SumOf, Formed, WithinLimits, additions, additions_of, fits, fraction_additions, fraction_fits, has_room, has_too_many_digits, with_size, quantity_nanos, size, times, digits_overflow, total, value}
 use Rattle.humantime.specs.Laws.{OlderFormed, OlderFraction, older_additions, older_additions_of, older_fraction_additions, older_value, AcceptedWithZeros, OlderZero, OlderSum}
-use Rattle.humantime.specs.PrintedDurations.{Suffix, printed_count, printed_counts, joined_or_zero, suffixes, weights}
+use Rattle.humantime.specs.PrintedDurations.{Suffix, with_plural, without_plural, printed_count, printed_counts, joined_or_zero, suffixes, weights}
 use Rattle.std.proofs.Common.{◌≡◌, ◌∙◌, ◌↔◌, ℕ, ◌+◌, ◌*◌, ◌/◌, ◌%◌, ◌^◌, ◌≤◌, List, [], ◌∷◌, ◌++◌, Some, None, length, refl, sym, ap, arith, codes, decimal, Bool, true, false, ◌&&◌, ◌||◌, ◌==◌, nat_le, nat_lt, if◌then◌else◌, option_map, sum_by, unwrap_or, IsSome, Option, zip}
 use Rattle.std.proofs.lemmas.Bool.Decides.{nat_tests}
 use Rattle.std.specs.List.{AllByRecursion}
@@ -161,8 +161,9 @@ older_addition s unit part ds = (λ is. rw is refl, refl)
 
 -- A count above 1 has the `s` of the plural if its unit has one, and no other count has it.
 plural : (n : ℕ) (unit : List ℕ)
-    → (printed_count n (unit, true) ≡ decimal n ++ unit ++ (if nat_lt 1 n then codes "s" else []))
-    × (printed_count n (unit, false) ≡ decimal n ++ unit ++ [])
+    → (printed_count n (with_plural unit)
+    ≡ decimal n ++ unit ++ (if nat_lt 1 n then codes "s" else []))
+    × (printed_count n (without_plural unit) ≡ decimal n ++ unit ++ [])
 plural n unit = (refl, refl)
 
 -- A text has the counts that are not zero, joined with single spaces.
@@ -181,8 +182,13 @@ any_text w d ws = (refl, refl)
 
 nine_units :
     zip weights suffixes
-    ≡ (31_557_600_000_000_000, (codes "year", true)) ∷ (2_630_016_000_000_000, (codes "month", true))
-    ∷ (86_400_000_000_000, (codes "day", true)) ∷ (3_600_000_000_000, (codes "h", false))
-    ∷ (60_000_000_000, (codes "m", false)) ∷ (1_000_000_000, (codes "s", false))
-    ∷ (1_000_000, (codes "ms", false)) ∷ (1_000, (0xc2 ∷ 0xb5 ∷ codes "s", false)) ∷ (1, (codes "ns", false)) ∷ []
+    ≡ (31_557_600_000_000_000, with_plural (codes "year"))
+    ∷ (2_630_016_000_000_000, with_plural (codes "month"))
+    ∷ (86_400_000_000_000, with_plural (codes "day"))
+    ∷ (3_600_000_000_000, without_plural (codes "h"))
+    ∷ (60_000_000_000, without_plural (codes "m"))
+    ∷ (1_000_000_000, without_plural (codes "s"))
+    ∷ (1_000_000, without_plural (codes "ms"))
+    ∷ (1_000, without_plural (0xc2 ∷ 0xb5 ∷ codes "s"))
+    ∷ (1, without_plural (codes "ns")) ∷ []
 nine_units = refl

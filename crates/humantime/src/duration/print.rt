@@ -1,7 +1,7 @@
 //! Prints durations: [`format_duration`], [`FormattedDuration`] and [`canonical`].
 
 ghost use Rattle.std.specs.Prelude.{◌≡◌, ◌<◌, ◌≤◌, ◌+◌, ◌==◌, if◌then◌else◌, codes, [], ◌∷◌, length, take, decimal, ◌↔◌, ℕ, List, chars};
-ghost use Rattle.std.specs.Prelude.{IfOk, IfErr, OnErr, Ok, Some, true, false};
+ghost use Rattle.std.specs.Prelude.{IfOk, IfErr, OnErr, Ok, Some};
 ghost use Rattle.std.specs.Str.{IsUtf8};
 ghost use Rattle.std.proofs.Props.{props};
 ghost use Rattle.std.specs.Borrow.{sem};
@@ -29,6 +29,7 @@ struct Writer<'b> {
 
 impl<'b> Writer<'b> {
     ghost use Rattle.humantime.specs.PrivateFunctions.{most_bytes, written, Appends, AppendsCount, HasWritten};
+    ghost use Rattle.humantime.specs.PrintedDurations.{with_plural, without_plural};
 
     /// Creates a writer to `bytes` that has written nothing yet.
     #[inline(always)]
@@ -75,9 +76,9 @@ impl<'b> Writer<'b> {
     /// count of zero is left out.
     #[inline(always)]
     fn push_count(&mut self, count: u64, unit: &str)
-        requires fits { self.old.end + 1 + most_bytes count (unit.now, false)
+        requires fits { self.old.end + 1 + most_bytes count (without_plural unit.now)
             ≤ length self.old.bytes.now }
-        ensures { AppendsCount self.old self.new count (unit.now, false) }
+        ensures { AppendsCount self.old self.new count (without_plural unit.now) }
     {
         if count == 0 {
             return;
@@ -93,9 +94,9 @@ impl<'b> Writer<'b> {
     /// is above 1.
     #[inline(always)]
     fn push_plural(&mut self, count: u64, unit: &str)
-        requires fits { self.old.end + 1 + most_bytes count (unit.now, true)
+        requires fits { self.old.end + 1 + most_bytes count (with_plural unit.now)
             ≤ length self.old.bytes.now }
-        ensures { AppendsCount self.old self.new count (unit.now, true) }
+        ensures { AppendsCount self.old self.new count (with_plural unit.now) }
     {
         self.push_count(count, unit);
         if count > 1 {
