@@ -1,8 +1,8 @@
 -- A text of a timestamp has exactly one moment or one error.
 use Rattle.humantime.specs.Laws.{HasTAndZone, HasOneTimestamp}
 use Rattle.humantime.specs.TimestampResults.{moment_at, weak_answer, strict_answer, moment_or_error, IsWeakAnswer, IsStrictAnswer}
-use Rattle.humantime.specs.Timestamps.{Fields, fraction_text, fraction_digits, fields_text, IsWeak, zone_text, NoZone, date_time_text, IsStrict, IsWeakMoment, IsStrictMoment, has_two_digits, has_digits, number_between, has_separator, has_punctuation, is_valid_date_time, may_be_fraction, weak_checks, first_failed, zone_of, fraction_part, ends_in_zone, has_t_and_zone, strict_checks}
-use Rattle.std.proofs.Common.{◌≡◌, ℕ, ◌+◌, ◌/◌, ◌%◌, ◌≤◌, List, length, drop, refl, arith, ◌++◌, rules, ◌≢◌, ap, ◌∙◌, true, slice_index, Option, None, ◌↔◌, ℤ, Bool, Result, le-leb}
+use Rattle.humantime.specs.Timestamps.{Check, Fields, fraction_text, fraction_digits, fields_text, IsWeak, zone_text, NoZone, date_time_text, IsStrict, IsWeakMoment, IsStrictMoment, has_two_digits, has_digits, number_between, has_separator, has_punctuation, is_valid_date_time, may_be_fraction, weak_checks, first_failed, zone_of, fraction_part, ends_in_zone, has_t_and_zone, strict_checks}
+use Rattle.std.proofs.Common.{◌≡◌, ℕ, ◌+◌, ◌/◌, ◌%◌, ◌≤◌, List, length, drop, refl, arith, ◌++◌, rules, ◌≢◌, ap, ◌∙◌, true, slice_index, Option, None, ◌↔◌, ℤ, Result, le-leb}
 use Rattle.std.proofs.lemmas.Bool.Decides.{nat_tests}
 use Rattle.std.proofs.lemmas.Grind.{common_steps}
 use Rattle.std.specs.List.{AllByRecursion}
@@ -134,7 +134,7 @@ strict_checked bytes f = grind (arith, strict_is_marked_weak)
 
 -- If the text represents exactly the parts at their positions, and only if no check fails, then the
 -- result by the checks is the one outcome.
-outcome_of_checks : (bytes : List ℕ) (checks : List (Bool × TimestampError)) (IsShown : Fields → Type 0)
+outcome_of_checks : (bytes : List ℕ) (checks : List Check) (IsShown : Fields → Type 0)
     → ((f : Fields) → IsShown f ↔ ((first_failed checks ≡ None) × (f ≡ fields_of bytes)))
     → HasOneTimestamp checks IsShown (moment_or_error (first_failed checks) (moment_at bytes))
 outcome_of_checks bytes checks IsShown decided =

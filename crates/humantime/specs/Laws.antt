@@ -1,5 +1,5 @@
 -- The statements of the laws.
-use Rattle.std.specs.Prelude.{◌≡◌, ℕ, ◌≢◌, ◌↔◌, ◌⊎◌, ◌+◌, List, ◌++◌, Ok, Err, filter, not, IsPermutation, Bool, ◌||◌, [], ◌∷◌, Result, option_to_list, Option, Some, None, true, is_ok, flat_map, ◌≤◌, length, chars, slice_index, ◌*◌, ◌/◌, ◌^◌, IsOk, ⊤, ℤ, pos, IsTrue}
+use Rattle.std.specs.Prelude.{◌≡◌, ℕ, ◌≢◌, ◌↔◌, ◌⊎◌, ◌+◌, List, ◌++◌, Ok, Err, filter, not, IsPermutation, ◌||◌, [], ◌∷◌, Result, option_to_list, Option, Some, None, true, is_ok, flat_map, ◌≤◌, length, chars, slice_index, ◌*◌, ◌/◌, ◌^◌, IsOk, ⊤, ℤ, pos, IsTrue}
 use Rattle.std.specs.List.{list_all, AllByRecursion}
 use Rattle.std.specs.Cmp.Lexicographic.{slice_cmp}
 use Rattle.std.specs.Ordering.{nat_cmp, int_cmp}
@@ -13,7 +13,7 @@ use Rattle.humantime.specs.DurationResults.{duration_answer, duration_text, cano
 use Rattle.humantime.specs.Items.{SpanView, Items, AreItems}
 use Rattle.humantime.specs.PrintedDurations.{AreCounts, IsCanonicalText, CanonicalizesTo}
 use Rattle.humantime.specs.declared.date.error.TimestampError.{TimestampError}
-use Rattle.humantime.specs.Timestamps.{Fields, IsWeak, IsStrict, moment_of, IsWeakMoment, IsStrictMoment, cut, IsPrinted, IsPrintable, ends_in_zone, first_failed}
+use Rattle.humantime.specs.Timestamps.{Check, Fields, IsWeak, IsStrict, moment_of, IsWeakMoment, IsStrictMoment, cut, IsPrinted, IsPrintable, ends_in_zone, first_failed}
 use Rattle.humantime.specs.TimestampResults.{strict_answer, weak_answer, moment_text}
 
 -- ==== Existence and uniqueness, for all laws.
@@ -304,7 +304,7 @@ pub record ReadsAs (bytes : List ℕ) (t : ℤ) : Type 0 where
 
 -- The text represents parts if and only if no check fails, and then exactly one set of them. The
 -- result of parsing is their moment, or the error of the first check that fails.
-pub record HasOneTimestamp (checks : List (Bool × TimestampError)) (Represents : Fields → Type 0)
+pub record HasOneTimestamp (checks : List Check) (Represents : Fields → Type 0)
     (answer : Result ℤ TimestampError) : Type 0 where
   pub some : ((f : Fields) × Represents f) ↔ (first_failed checks ≡ None)
   pub only : (f g : Fields) → Represents f → Represents g → f ≡ g

@@ -197,25 +197,31 @@ fraction_part bytes = before_zone (drop 19 bytes)
 unfoldable pub may_be_fraction : List ℕ → Bool
 may_be_fraction part = (length part == 0) || (slice_index part 0 == byte ".")
 
--- The checks of the weak form in order, each with its error.
-abbrev pub weak_checks : List ℕ → List (Bool × TimestampError)
+-- A check: whether the text passes it, and the error if it does not.
+pub record Check : Type 0 where
+  pub passes : Bool
+  pub error : TimestampError
+
+-- The checks of the weak form in order.
+abbrev pub weak_checks : List ℕ → List Check
 weak_checks bytes =
-    (nat_le 19 (length bytes), InvalidFormat)
-    ∷ (has_punctuation bytes, InvalidFormat)
-    ∷ (has_digits bytes, InvalidDigit)
-    ∷ (is_valid_date_time (date_time_of bytes), OutOfRange)
-    ∷ (may_be_fraction (fraction_part bytes), InvalidFormat)
-    ∷ (all_ascii_digits (drop 1 (fraction_part bytes)), InvalidDigit)
+    record { passes = nat_le 19 (length bytes); error = InvalidFormat }
+    ∷ record { passes = has_punctuation bytes; error = InvalidFormat }
+    ∷ record { passes = has_digits bytes; error = InvalidDigit }
+    ∷ record { passes = is_valid_date_time (date_time_of bytes); error = OutOfRange }
+    ∷ record { passes = may_be_fraction (fraction_part bytes); error = InvalidFormat }
+    ∷ record { passes = all_ascii_digits (drop 1 (fraction_part bytes)); error = InvalidDigit }
     ∷ []
 
 -- The checks of the strict form: `has_t_and_zone`, followed by those of the weak form.
-abbrev pub strict_checks : List ℕ → List (Bool × TimestampError)
-strict_checks bytes = (has_t_and_zone bytes, InvalidFormat) ∷ weak_checks bytes
+abbrev pub strict_checks : List ℕ → List Check
+strict_checks bytes =
+    record { passes = has_t_and_zone bytes; error = InvalidFormat } ∷ weak_checks bytes
 
 -- Returns the error of the first check that fails, or `None` if none does.
-abbrev pub first_failed : List (Bool × TimestampError) → Option TimestampError
+abbrev pub first_failed : List Check → Option TimestampError
 first_failed [] = None
-first_failed (check ∷ checks) = if check.0 then first_failed checks else Some check.1
+first_failed (check ∷ checks) = if check.passes then first_failed checks else Some check.error
 
 -- Returns the message of an error.
 abbrev pub timestamp_message : TimestampError → List ℕ

@@ -2,8 +2,8 @@
 use Rattle.humantime.specs.Calendar.{IsDate, days_in_month, days_of_months, days_of_years, is_valid, day_of}
 use Rattle.humantime.specs.Characters.{decimal_value}
 use Rattle.humantime.specs.Laws.{ReadsAs}
-use Rattle.humantime.specs.Timestamps.{cut, places_of, IsPrintable, IsPrinted, IsStrictMoment, IsWeakMoment, date_time_of, ends_in_zone, first_failed, fraction_part, has_two_digits, is_valid_date_time, strict_checks, weak_checks, Fields, Letter_T, Space, NoZone, Letter_Z, ZeroOffset, IsStrict, IsWeak, fields_text, fraction_digits, fraction_nanos, fraction_text, moment_of, separator_byte, zone_text}
-use Rattle.std.proofs.Common.{◌≡◌, ◌≢◌, ◌↔◌, ℕ, ◌+◌, ◌-◌, ◌*◌, ◌/◌, ◌%◌, ◌^◌, ◌≤◌, List, [], ◌∷◌, ◌++◌, None, Some, suc, length, take, drop, refl, arith, ℤ, ◌+ℤ◌, ◌≤ℤ◌, ◌<ℤ◌, pos, negsuc, Bool, true, false, ◌&&◌, ◌||◌, ◌==◌, nat_le, if◌then◌else◌, codes, min, not, option_map, slice_index, slice_range, nat_eq, IsTrue}
+use Rattle.humantime.specs.Timestamps.{Check, cut, places_of, IsPrintable, IsPrinted, IsStrictMoment, IsWeakMoment, date_time_of, ends_in_zone, first_failed, fraction_part, has_two_digits, is_valid_date_time, strict_checks, weak_checks, Fields, Letter_T, Space, NoZone, Letter_Z, ZeroOffset, IsStrict, IsWeak, fields_text, fraction_digits, fraction_nanos, fraction_text, moment_of, separator_byte, zone_text}
+use Rattle.std.proofs.Common.{◌≡◌, ◌≢◌, ◌↔◌, ℕ, ◌+◌, ◌-◌, ◌*◌, ◌/◌, ◌%◌, ◌^◌, ◌≤◌, List, [], ◌∷◌, ◌++◌, None, Some, suc, length, take, drop, refl, arith, ℤ, ◌+ℤ◌, ◌≤ℤ◌, ◌<ℤ◌, pos, negsuc, true, false, ◌&&◌, ◌||◌, ◌==◌, nat_le, if◌then◌else◌, codes, min, not, option_map, slice_index, slice_range, nat_eq, IsTrue}
 use Rattle.std.proofs.lemmas.Bool.Decides.{nat_tests}
 use Rattle.std.proofs.lemmas.Int.{ints}
 use Rattle.std.specs.Char.{is_ascii_digit}
@@ -41,20 +41,27 @@ any_date d = refl
 -- strict form.
 any_checks : (b : List ℕ) → let at = slice_index b in
     (weak_checks b
-    ≡ (nat_le 19 (length b), InvalidFormat)
-    ∷ (
-      (at 4 == byte "-") && (at 7 == byte "-") && ((at 10 == byte "T") || (at 10 == byte " "))
-          && (at 13 == byte ":") && (at 16 == byte ":"),
-      InvalidFormat,
-    )
-    ∷ (list_all (λ k. has_two_digits b k) (0 ∷ 2 ∷ 5 ∷ 8 ∷ 11 ∷ 14 ∷ 17 ∷ []), InvalidDigit)
-    ∷ (is_valid_date_time (date_time_of b), OutOfRange)
-    ∷ ((length (fraction_part b) == 0) || (slice_index (fraction_part b) 0 == byte "."), InvalidFormat)
-    ∷ (all_ascii_digits (drop 1 (fraction_part b)), InvalidDigit) ∷ [])
-    × (strict_checks b ≡ (
-      nat_le 20 (length b) && (at 10 == byte "T") && ends_in_zone b,
-      InvalidFormat,
-    ) ∷ weak_checks b)
+    ≡ record { passes = nat_le 19 (length b); error = InvalidFormat }
+    ∷ record {
+      passes = (at 4 == byte "-") && (at 7 == byte "-")
+          && ((at 10 == byte "T") || (at 10 == byte " ")) && (at 13 == byte ":")
+          && (at 16 == byte ":");
+      error = InvalidFormat;
+    }
+    ∷ record {
+      passes = list_all (λ k. has_two_digits b k) (0 ∷ 2 ∷ 5 ∷ 8 ∷ 11 ∷ 14 ∷ 17 ∷ []);
+      error = InvalidDigit;
+    }
+    ∷ record { passes = is_valid_date_time (date_time_of b); error = OutOfRange }
+    ∷ record {
+      passes = (length (fraction_part b) == 0) || (slice_index (fraction_part b) 0 == byte ".");
+      error = InvalidFormat;
+    }
+    ∷ record { passes = all_ascii_digits (drop 1 (fraction_part b)); error = InvalidDigit } ∷ [])
+    × (strict_checks b ≡ record {
+      passes = nat_le 20 (length b) && (at 10 == byte "T") && ends_in_zone b;
+      error = InvalidFormat;
+    } ∷ weak_checks b)
 unfolding timestamps_on_literals
 any_checks b = (refl, refl)
 
@@ -85,9 +92,9 @@ any_part : (b : List ℕ) → let rest = drop 19 b in let ends = ends_with nat_e
 unfolding timestamps_on_literals
 any_part b = (refl, refl)
 
-first_error : (e : TimestampError) (others : List (Bool × TimestampError))
-    → (first_failed ((true, e) ∷ others) ≡ first_failed others)
-    × (first_failed ((false, e) ∷ others) ≡ Some e)
+first_error : (e : TimestampError) (others : List Check)
+    → (first_failed (record { passes = true; error = e } ∷ others) ≡ first_failed others)
+    × (first_failed (record { passes = false; error = e } ∷ others) ≡ Some e)
 first_error e others = (refl, refl)
 
 -- ---- forms
