@@ -1,7 +1,8 @@
 -- The layout of a timestamp, tested on all bytes at once.
 use Rattle.humantime.specs.PrivateFunctions.{has_layout}
 use Rattle.humantime.specs.TimestampResults.{weak_answer}
-use Rattle.humantime.specs.Timestamps.{DateAndTime, Letter_T, Space, Fields, fraction_digits, has_two_digits, has_punctuation, has_digits, date_time_of, is_valid_date_time, zone_of, fraction_part, may_be_fraction, weak_checks, first_failed, has_separator}
+use Rattle.humantime.specs.Timestamps.{Letter_T, Space, Fields, fraction_digits, has_two_digits, has_punctuation, has_digits, date_time_of, is_valid_date_time, zone_of, fraction_part, may_be_fraction, weak_checks, first_failed, has_separator}
+use Rattle.humantime.specs.declared.date.parse.DateTime.{DateTime}
 use Rattle.std.proofs.Common.{◌≡◌, ℕ, ◌≤◌, List, [], ◌∷◌, length, get_or, drop, refl, arith, ◌+◌, ◌-◌, ◌%◌, ◌^◌, ◌<◌, Bool, cond, eqb, ltb, ◌&&◌, map, replicate, take, Fits, w8, ap, ◌∙◌, ◌*◌, T, le-leb, true, slice_index, Option, Some, None, ◌==◌, if◌then◌else◌, codes, nat_eq, bit_or}
 use Rattle.std.proofs.lemmas.Bool.{and_parts, agree_below_at}
 use Rattle.std.proofs.lemmas.Bool.Decides.{nat_tests}
@@ -205,7 +206,7 @@ sums_fit bytes long =
     (grind (arith, common_steps, nat_tests), grind (arith, common_steps, nat_tests))
 
 -- The numbers, by the sums over the first 16 bytes and over those from byte 3 on.
-abbrev summed : List ℕ → DateAndTime
+abbrev summed : List ℕ → DateTime
 summed bytes =
     let front = slice_index (dots (zip2 above (take 16 bytes) least) front_weights) in
     let back = slice_index (dots (zip2 above (take 16 (drop 3 bytes)) least_back) back_weights) in

@@ -1,5 +1,5 @@
 -- The statements of the laws.
-use Rattle.std.specs.Prelude.{◌≡◌, ℕ, ◌≢◌, ◌↔◌, ◌⊎◌, ◌+◌, List, ◌++◌, Ok, Err, filter, not, IsPermutation, ◌||◌, [], ◌∷◌, Result, option_to_list, Option, Some, None, true, is_ok, flat_map, ◌≤◌, length, chars, slice_index, ◌*◌, ◌/◌, ◌^◌, IsOk, ⊤, ℤ, pos, IsTrue}
+use Rattle.std.specs.Prelude.{◌≡◌, ℕ, ◌≢◌, ◌↔◌, ◌⊎◌, ◌+◌, List, ◌++◌, Ok, Err, filter, not, IsPermutation, Bool, ◌||◌, [], ◌∷◌, Result, option_to_list, Option, Some, None, true, is_ok, flat_map, ◌≤◌, length, chars, slice_index, ◌*◌, ◌/◌, ◌^◌, IsOk, ⊤, ℤ, pos, IsTrue}
 use Rattle.std.specs.List.{list_all, AllByRecursion}
 use Rattle.std.specs.Cmp.Lexicographic.{slice_cmp}
 use Rattle.std.specs.Ordering.{nat_cmp, int_cmp}

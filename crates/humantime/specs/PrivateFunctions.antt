@@ -21,8 +21,7 @@ use Rattle.humantime.specs.declared.calendar.Date.{Date}
 use Rattle.humantime.specs.declared.date.error.TimestampError.{TimestampError}
 use Rattle.humantime.specs.declared.date.error.TimestampError.TheVariants.{InvalidDigit, InvalidFormat}
 use Rattle.humantime.specs.Values.{seconds_per_day, second_of}
-use Rattle.humantime.specs.declared.date.parse.DateTime.{DateTime}
-use Rattle.humantime.specs.Timestamps.{DateAndTime, fraction_nanos, has_punctuation, has_digits, may_be_fraction}
+use Rattle.humantime.specs.Timestamps.{fraction_nanos, has_punctuation, has_digits, may_be_fraction}
 use Rattle.humantime.specs.declared.duration.print.Writer.{Writer}
 use Rattle.humantime.specs.PrintedDurations.{Suffix, printed_counts}
 
@@ -150,10 +149,6 @@ add_fraction t (Some x) number count =
 -- Tests whether the text has at least 19 bytes, with punctuation and digits at their positions.
 unfoldable pub has_layout : List ℕ → Bool
 has_layout bytes = nat_le 19 (length bytes) && has_punctuation bytes && has_digits bytes
-
--- Returns the date and time that a `DateTime` of the code holds.
-abbrev pub date_time_view : DateTime → DateAndTime
-date_time_view x = record { date = x.date; hour = x.hour; minute = x.minute; second = x.second }
 
 -- Returns the nanoseconds of the digits after a point, or `InvalidDigit` if a byte is not a digit.
 abbrev pub digits_answer : List ℕ → Result ℕ TimestampError

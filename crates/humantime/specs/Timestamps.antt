@@ -10,6 +10,7 @@ use Rattle.humantime.specs.declared.calendar.Date.{Date}
 use Rattle.humantime.specs.Calendar.{IsDate, day_of, is_valid}
 use Rattle.humantime.specs.Values.{nanos_per_second, seconds_per_day, seconds_per_hour, seconds_per_minute, nano_of}
 use Rattle.humantime.specs.declared.date.error.TimestampError.{TimestampError}
+use Rattle.humantime.specs.declared.date.parse.DateTime.{DateTime}
 use Rattle.humantime.specs.declared.date.error.TimestampError.TheVariants.{OutOfRange, InvalidDigit, InvalidFormat}
 
 -- ==== The parts of a timestamp, the texts that represent them, and the moment that they denote. A
@@ -167,24 +168,21 @@ has_digits b = list_all (λ k. has_two_digits b k) (0 ∷ 2 ∷ 5 ∷ 8 ∷ 11 �
 unfoldable pub number_between : List ℕ → ℕ → ℕ → ℕ
 number_between b from to = decimal_value (slice_range b from to)
 
--- A date and a time of day, which may be out of range.
-pub record DateAndTime : Type 0 where
-  pub date : Date
-  pub hour : ℕ
-  pub minute : ℕ
-  pub second : ℕ
-
--- Returns the date and time of the first 19 bytes.
-abbrev pub date_time_of : List ℕ → DateAndTime
+-- Returns the date and time of the first 19 bytes, which may be out of range.
+abbrev pub date_time_of : List ℕ → DateTime
 date_time_of b = record {
-  date = record { year = number_between b 0 4; month = number_between b 5 7; day = number_between b 8 10 };
+  date = record {
+    year = number_between b 0 4;
+    month = number_between b 5 7;
+    day = number_between b 8 10;
+  };
   hour = number_between b 11 13;
   minute = number_between b 14 16;
   second = number_between b 17 19;
 }
 
 -- Tests whether the date exists and hour, minute and second are at most 23, 59 and 60.
-unfoldable pub is_valid_date_time : DateAndTime → Bool
+unfoldable pub is_valid_date_time : DateTime → Bool
 is_valid_date_time x =
     is_valid x.date.year x.date.month x.date.day && nat_le x.hour 23 && nat_le x.minute 59
     && nat_le x.second 60

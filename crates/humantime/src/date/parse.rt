@@ -1,13 +1,13 @@
 //! Parses timestamps: [`parse_rfc3339`] in the strict format, and [`parse_rfc3339_weak`] in the
 //! weak format.
 
-ghost use Rattle.std.specs.Prelude.{◌≡◌, ◌^◌, ◌<◌, ◌≤◌, length, false, IsTrue, IfSome, SomeIff, option_map, Err};
+ghost use Rattle.std.specs.Prelude.{◌≡◌, ◌^◌, ◌<◌, ◌≤◌, length, false, IsTrue, IfSome, SomeIff, Err};
 ghost use Rattle.std.specs.Char.{is_ascii_digit};
 ghost use Rattle.std.specs.List.{list_all};
 ghost use Rattle.humantime.specs.Prelude.{IsStrictAnswer, IsWeakAnswer, strict_answer, weak_answer};
 ghost use Rattle.humantime.specs.Timestamps;
 ghost use Rattle.humantime.specs.Timestamps.{ZeroOffset, date_time_of, ends_in, has_separator, is_valid_date_time, seconds_of};
-ghost use Rattle.humantime.specs.PrivateFunctions.{date_time_view, digits_answer, fraction_answer, has_layout};
+ghost use Rattle.humantime.specs.PrivateFunctions.{digits_answer, fraction_answer, has_layout};
 
 use crate::calendar::{Date, Turns, day_number};
 use crate::date::error::TimestampError;
@@ -223,8 +223,7 @@ fn layout_error(bytes: &[u8]) -> TimestampError
 fn parse_date_time(bytes: &[u8]) -> Option<DateTime>
     requires long { 19 ≤ length bytes.now }
     requires separator { IsTrue (has_separator bytes.now) }
-    ensures { SomeIff (option_map date_time_view result) (IsTrue (has_layout bytes.now))
-        (date_time_of bytes.now) }
+    ensures { SomeIff result (IsTrue (has_layout bytes.now)) (date_time_of bytes.now) }
 {
     let front = u8x16::from_slice(bytes) - u8x16::from_slice(&FRONT_MIN);
     let back = u8x16::from_slice(&bytes[3..]) - u8x16::from_slice(&BACK_MIN);
@@ -250,7 +249,7 @@ fn parse_date_time(bytes: &[u8]) -> Option<DateTime>
 #[inline(always)]
 #[tactic(auto, unfolding(crate::specs::Timestamps::is_valid_date_time))]
 fn unix_seconds(when: DateTime) -> Option<u64>
-    ensures value { SomeIff result (IsTrue (is_valid_date_time (date_time_view when)))
+    ensures value { SomeIff result (IsTrue (is_valid_date_time when))
         (seconds_of when.date when.hour when.minute when.second) }
     ensures bound { IfSome result (λ n. n < 2 ^ 63) }
 {
