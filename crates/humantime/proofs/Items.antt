@@ -53,8 +53,8 @@ unfolding items items_from
 are_items text =
     let i = items_found_at text in
     record {
-      spans = (items text).0;
-      stop = (items text).1;
+      spans = (items text).spans;
+      stop = (items text).stop;
       views = map (view_at text) (walk_of text).starts;
       items = i.0;
       listed_are = refl;

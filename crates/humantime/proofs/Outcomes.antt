@@ -3,7 +3,7 @@ use Rattle.humantime.specs.Characters.{bare_zero}
 use Rattle.humantime.specs.DurationErrors.{span_of, Fault, NumberOverflow, BreaksLimit, HasFault, result_view, PointsInto}
 use Rattle.humantime.specs.DurationResults.{IsDurationAnswer, duration_answer}
 use Rattle.humantime.specs.Durations.{SpelledSpan, Reads, value, Formed, WithinLimits, Accepted, BareZero, SumOf, total, additions_of}
-use Rattle.humantime.specs.Items.{Items, items_of}
+use Rattle.humantime.specs.Items.{Items, AreSpansAndStop, items_of}
 use Rattle.humantime.specs.Laws.{ExactlyOne, IsOutcome, IsZeroOrSpans}
 use Rattle.humantime.specs.Walks.{items, sum_spans}
 use Rattle.std.proofs.Common.{◌≡◌, ◌≢◌, ◌⊎◌, ◌↔◌, ℕ, List, [], ◌∷◌, ◌++◌, Option, Some, None, Result, Ok, Err, refl, sym, ◌∙◌, inl, inr, arith, append_assoc, sum_by, IsPermutation, IfErr, chars, option_map, unwrap_or, bytes_eq}
@@ -26,7 +26,7 @@ unfolding duration_answer
 duration_answer-zero = refl
 
 pub duration_answer-items : (text : List ℕ) → text ≢ bare_zero
-    → duration_answer text ≡ sum_spans 0 (items_of (items text).0 (items text).1)
+    → duration_answer text ≡ sum_spans 0 (items_of (items text).spans (items text).stop)
 unfolding duration_answer
 duration_answer-items text some = grind (arith, bytes_eq-Decides)
 
@@ -71,7 +71,8 @@ over_outcome text e h b =
     (inr (inl (grind (arith, digit_in_number)))) in
     let right = walk-go text h.rest (span_has_no_fault text h.rest b.span) in
     let here = span_of h.rest ∷ [] in
-    let summed = outcome_summed text (items text).0 (items text).1 h.not_zero (items_found text) in
+    let summed =
+    outcome_summed text (items text).spans (items text).stop h.not_zero (items_found text) in
     grind (
       arith,
       walk,
@@ -115,8 +116,8 @@ fault_from_outcome text e h =
     grind (
       arith,
       duration_answer-zero,
-      (outcome_summed text (items text).0 (items text).1),
-      (items_decide_fault text (items text).0 e),
+      (outcome_summed text (items text).spans (items text).stop),
+      (items_decide_fault text (items text).spans e),
       i,
       too_large_found,
     )
@@ -156,10 +157,9 @@ exactly_one_outcome text = (
   λ r. (outcome_is text r).0,
 )
 
-pub one_list_of_items : (text : List ℕ)
-    → ExactlyOne (λ (list : List SpelledSpan × Option Fault). Items text list.0 list.1)
+pub one_list_of_items : (text : List ℕ) → ExactlyOne (AreSpansAndStop text)
 one_list_of_items text =
-    (items text, items_found text, λ list h. sym (items_walked text list.0 list.1 h))
+    (items text, items_found text, λ x h. sym (items_walked text x.spans x.stop h))
 
 -- ==== Accepted texts and their spans.
 

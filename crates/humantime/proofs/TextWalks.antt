@@ -2,7 +2,7 @@
 use Rattle.humantime.specs.Characters.{begins, ends, drop_while, take_while, is_whitespace, bare_zero, is_digit}
 use Rattle.humantime.specs.DurationErrors.{Fault, OnlyWhitespace, Split, may_follow_span, span_of, NumberOverflow, BeginsWithSpan, HasFault}
 use Rattle.humantime.specs.Durations.{SpelledSpan, SpellsSpans, SpellsFront, Reads, Spells, Formed, WithinLimits}
-use Rattle.humantime.specs.Items.{Items, EndsOrStops}
+use Rattle.humantime.specs.Items.{Items, AreSpansAndStop, EndsOrStops}
 use Rattle.humantime.specs.Walks.{Walk, walk, walk_from, fault_at, stop_at, items, walk_of}
 use Rattle.std.proofs.Common.{◌==◌, ◌≡◌, ◌≢◌, ℕ, zero, suc, ◌<◌, false, List, [], ◌∷◌, length, Some, None, refl, arith, ◌⊎◌, true, ◌++◌, map, Option, inl, append-nil, sym, ap, length-append, inr, append_assoc}
 use Rattle.std.proofs.lemmas.Bool.Decides.{nat_tests}
@@ -152,7 +152,7 @@ ends_walked text front rest spans stop h = grind arith
 
 -- The reference finds any items of a text.
 pub items_walked : (text : List ℕ) (spans : List SpelledSpan) (stop : Option Fault)
-    → Items text spans stop → items text ≡ (spans, stop)
+    → Items text spans stop → items text ≡ record { spans = spans; stop = stop }
 unfolding items
 items_walked text spans stop h =
     grind (
@@ -295,12 +295,12 @@ items_found_at text =
       refl,
     )
 
-pub items_found : (text : List ℕ) → Items text (items text).0 (items text).1
+pub items_found : (text : List ℕ) → AreSpansAndStop text (items text)
 unfolding items
 items_found text = (items_found_at text).0
 
 -- If the spans of a text break a limit, its fault is an overflow.
-pub too_large_found : (text : List ℕ) → text ≢ bare_zero → ¬ (WithinLimits (items text).0)
+pub too_large_found : (text : List ℕ) → text ≢ bare_zero → ¬ (WithinLimits (items text).spans)
     → HasFault text NumberOverflow
 unfolding items
 too_large_found text some = (read_all text (take_while is_whitespace text) [] (begun text)).1 some

@@ -64,7 +64,8 @@ span_in (Err e) = Err e
 -- Returns the duration that a text denotes, in nanoseconds, or its first error.
 unfoldable pub duration_answer : List ℕ → Result ℕ Fault
 duration_answer text =
-    if bytes_eq text bare_zero then Ok 0 else sum_spans 0 (items_of (items text).0 (items text).1)
+    if bytes_eq text bare_zero then Ok 0
+    else sum_spans 0 (items_of (items text).spans (items text).stop)
 
 -- The result of parsing a text is the duration that it denotes if and only if the text is accepted,
 -- and otherwise its first error, which points into the text.

@@ -19,6 +19,15 @@ pub record Items (text : List ℕ) (spans : List SpelledSpan) (stop : Option Fau
   pub formed : AllByRecursion Formed spans
   pub ends : EndsOrStops text front spans rest stop
 
+-- The spans of a text, and the fault that stops them, if any.
+pub record SpansAndStop : Type 0 where
+  pub spans : List SpelledSpan
+  pub stop : Option Fault
+
+-- The text is these spans, each formed, followed by the end of the text or by the fault.
+abbrev pub AreSpansAndStop : List ℕ → SpansAndStop → Type 0
+AreSpansAndStop text x = Items text x.spans x.stop
+
 -- The view of a span: the slices that it borrows, the byte offsets of its start and of the end of
 -- its word, and the value of its number.
 pub record SpanView : Type 0 where

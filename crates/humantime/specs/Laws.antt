@@ -10,7 +10,7 @@ use Rattle.humantime.specs.Characters.{is_whitespace, bare_zero, is_point, decim
 use Rattle.humantime.specs.Durations.{SpelledSpan, Reads, additions, AllHaveRoom, WithinLimits, Accepted, HasOnly, value, Quantity, Scale, scale_of_word, size, with_size, times, total, is_exact_fraction}
 use Rattle.humantime.specs.DurationErrors.{NumberOverflow, HasFault, Fault}
 use Rattle.humantime.specs.DurationResults.{duration_answer, duration_text, canonical_answer}
-use Rattle.humantime.specs.Items.{SpanView, Items, AreItems}
+use Rattle.humantime.specs.Items.{SpanView, Items, AreSpansAndStop, AreItems}
 use Rattle.humantime.specs.PrintedDurations.{AreCounts, IsCanonicalText, CanonicalizesTo}
 use Rattle.humantime.specs.declared.date.error.TimestampError.{TimestampError}
 use Rattle.humantime.specs.Timestamps.{Check, Fields, IsWeak, IsStrict, moment_of, IsWeakMoment, IsStrictMoment, cut, IsPrinted, IsPrintable, ends_in_zone, first_failed}
@@ -21,6 +21,10 @@ use Rattle.humantime.specs.TimestampResults.{strict_answer, weak_answer, moment_
 -- Exactly one value has this property.
 abbrev pub ExactlyOne : {A : Type 0} → (A → Type 0) → Type 0
 ExactlyOne {A} IsSo = (x : A) × IsSo x × ((other : A) → IsSo other → other ≡ x)
+
+-- At most one value has this property.
+abbrev pub AtMostOne : {A : Type 0} → (A → Type 0) → Type 0
+AtMostOne {A} IsSo = (x other : A) → IsSo x → IsSo other → x ≡ other
 
 -- ==== The law of day numbers.
 
@@ -126,9 +130,9 @@ IsOutcome text (Err e) = HasFault text e
 pub record HasOneOutcome (text : List ℕ) : Type 0 where
   -- The text has exactly one value and no fault, or exactly one fault and no value.
   pub outcome : ExactlyOne (IsOutcome text)
-  pub reading : (ss ts : List SpelledSpan) → Reads text ss → Reads text ts → ss ≡ ts
+  pub reading : AtMostOne (Reads text)
   -- The text has exactly one list of spans, with the error that stops them, if any.
-  pub items : ExactlyOne (λ (list : List SpelledSpan × Option Fault). Items text list.0 list.1)
+  pub items : ExactlyOne (AreSpansAndStop text)
   -- The result of parsing is a value if and only if that is the value of the text.
   pub value : (v : ℕ) → (duration_answer text ≡ Ok v) ↔ Accepted text v
   -- The result of parsing is an error if and only if that is the fault of the text.
@@ -137,7 +141,7 @@ pub record HasOneOutcome (text : List ℕ) : Type 0 where
 -- The items of a text determine its value or fault, unless the text is exactly `0`.
 pub record ItemsDecide (text : List ℕ) : Type 0 where
   -- The text has exactly one list of spans, with the error that stops them, if any.
-  pub one : ExactlyOne (λ (list : List SpelledSpan × Option Fault). Items text list.0 list.1)
+  pub one : ExactlyOne (AreSpansAndStop text)
   -- The text is accepted if and only if no error stops the spans and they are within the limits.
   -- Its value is then their sum.
   pub accepted : (spans : List SpelledSpan) (stop : Option Fault) → Items text spans stop
@@ -307,7 +311,7 @@ pub record ReadsAs (bytes : List ℕ) (t : ℤ) : Type 0 where
 pub record HasOneTimestamp (checks : List Check) (Represents : Fields → Type 0)
     (answer : Result ℤ TimestampError) : Type 0 where
   pub some : ((f : Fields) × Represents f) ↔ (first_failed checks ≡ None)
-  pub only : (f g : Fields) → Represents f → Represents g → f ≡ g
+  pub only : AtMostOne Represents
   pub value : (t : ℤ) → (answer ≡ Ok t) ↔ ((f : Fields) × Represents f × (t ≡ pos (moment_of f)))
   pub error : (e : TimestampError) → (answer ≡ Err e) ↔ (first_failed checks ≡ Some e)
 

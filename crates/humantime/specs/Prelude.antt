@@ -15,13 +15,13 @@ pub use Rattle.humantime.specs.Durations.{Accepted, BareZero, SumOf, value, addi
 pub use Rattle.humantime.specs.DurationErrors.{Fault, InvalidCharacter, NumberExpected, UnknownUnit, NumberOverflow, Empty, HasFault}
 pub use Rattle.humantime.specs.Laws.{without_whitespace, AreReordered, AcceptedWithZeros, older_additions}
 -- The items of a text.
-pub use Rattle.humantime.specs.Items.{Items, SpanView, AreItems}
+pub use Rattle.humantime.specs.Items.{Items, SpansAndStop, SpanView, AreItems}
 pub use Rattle.humantime.specs.Laws.{slices_of, IsTiled}
 pub use Rattle.humantime.specs.SpanResults.{span_view, items_left, text_of, GivesItem}
 -- Printing durations.
 pub use Rattle.humantime.specs.PrintedDurations.{AreCounts, IsCanonicalText, CanonicalizesTo}
 -- Parsing timestamps.
-pub use Rattle.humantime.specs.Timestamps.{Fields, IsWeak, IsStrict, IsWeakMoment, IsStrictMoment, weak_checks, strict_checks, first_failed, timestamp_message}
+pub use Rattle.humantime.specs.Timestamps.{Fields, Check, IsWeak, IsStrict, IsWeakMoment, IsStrictMoment, weak_checks, strict_checks, first_failed, timestamp_message}
 pub use Rattle.humantime.specs.TimestampResults.{weak_answer, strict_answer, IsWeakAnswer, IsStrictAnswer, moment_text, printed_text, shortest_text, DisplaysMoment}
 -- Printing timestamps.
 pub use Rattle.humantime.specs.Timestamps.{MomentToPrint, places_of, cut, IsPrinted, IsPrintedWith, IsPrintable}

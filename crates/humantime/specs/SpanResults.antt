@@ -38,11 +38,18 @@ items_left i =
 abbrev pub text_of : SpanIter → List ℕ
 text_of i = i.text.now
 
+-- The offsets of the span lie in the text.
+abbrev pub IsSpanIn : List ℕ → Span → Type 0
+IsSpanIn bytes s = IsRangeIn bytes s.start s.end
+
+-- The offsets of the span lie in the text, or the error points into the text.
+abbrev pub IsItemIn : List ℕ → Result Span DurationError → Type 0
+IsItemIn bytes item = MatchResult item (IsSpanIn bytes) (PointsInto bytes)
+
 -- `next` returned the first of the remaining items and left the others, or returned `None` if none
--- remained. The iterator still reads the same text; the span lies in it, or the error points into
--- it.
+-- remained. The iterator still reads the same text, and the item lies in it.
 abbrev pub GivesItem : SpanIter → Option (Result Span DurationError) → SpanIter → Type 0
 GivesItem old result new =
     YieldsFirstBy item_of items_left old result new
     × (text_of new ≡ text_of old)
-    × IfSome result (λ item. MatchResult item (λ s. IsRangeIn (text_of old) s.start s.end) (PointsInto (text_of old)))
+    × IfSome result (IsItemIn (text_of old))

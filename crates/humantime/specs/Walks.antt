@@ -4,6 +4,7 @@ use Rattle.std.specs.Prelude.{ℕ, zero, suc, ◌+◌, Bool, true, not, ◌&&◌
 use Rattle.humantime.specs.Characters.{begins, drop_while, decimal_value, is_whitespace, is_digit, is_letter, offset_of}
 use Rattle.humantime.specs.Durations.{Quantity, scale_of_word, SpelledSpan, quantity_nanos, additions_of, fits, is_some_and, has_room, digits_overflow}
 use Rattle.humantime.specs.DurationErrors.{number_of, after_number, fraction_of, after_fraction, word_of, after_word, span_of, may_follow_span, Fault, InvalidCharacter, NumberExpected, UnknownUnit, NumberOverflow, Empty}
+use Rattle.humantime.specs.Items.{SpansAndStop}
 
 -- Tests whether a text may begin a word: it is empty, or begins with a letter.
 abbrev pub at_letter_or_end : List ℕ → Bool
@@ -60,10 +61,11 @@ abbrev pub stop_at : Bool → List ℕ → List ℕ → Option Fault
 stop_at none text [] = if none then Some Empty else None
 stop_at none text (c ∷ cs) = fault_at text (c ∷ cs)
 
--- The spans of a text, and the error that stops them, if any.
-unfoldable pub items : List ℕ → List SpelledSpan × Option Fault
+-- The spans of a text, and the fault that stops them, if any.
+unfoldable pub items : List ℕ → SpansAndStop
 items text =
-    let w = walk_of text in (map span_of w.starts, stop_at (length w.starts == 0) text w.rest)
+    let w = walk_of text in
+    record { spans = map span_of w.starts; stop = stop_at (length w.starts == 0) text w.rest }
 
 -- Returns the sum of `t` and a quantity, or `None` on overflow.
 abbrev pub add : ℕ → Quantity → Option ℕ

@@ -5,7 +5,7 @@ ghost use Rattle.std.specs.Prelude.{◌≡◌, ◌≢◌, ◌+◌, ◌≤◌, �
 ghost use Rattle.std.specs.Ordering.{int_cmp, is_lt};
 ghost use Rattle.humantime.specs.Laws.{IsOutcome, IsZeroOrSpans};
 ghost use Rattle.humantime.specs.Timestamps.{moment_of};
-ghost use Rattle.humantime.specs.Prelude.{Accepted, AcceptedWithZeros, AllHaveRoom, AreCounts, AreItems, AreReordered, ExactlyOne, Fault, Fields, HasFault, CanonicalizesTo, IsCanonicalText, HasTAndZone, IsPrintable, IsPrinted, IsStrict, IsStrictMoment, IsWeak, IsWeakMoment, Items, NumberOverflow, Reads, SpanView, SpelledSpan, WithinLimits, additions, bare_zero, cut, canonical_answer, duration_answer, duration_text, first_failed, older_additions, printed_text, result_view, strict_checks, value, weak_answer, weak_checks, without_whitespace};
+ghost use Rattle.humantime.specs.Prelude.{Accepted, AcceptedWithZeros, AllHaveRoom, AreCounts, AreItems, AreReordered, ExactlyOne, Fault, Fields, HasFault, CanonicalizesTo, IsCanonicalText, HasTAndZone, IsPrintable, IsPrinted, IsStrict, IsStrictMoment, IsWeak, IsWeakMoment, Items, NumberOverflow, Reads, SpanView, SpansAndStop, SpelledSpan, WithinLimits, additions, bare_zero, cut, canonical_answer, duration_answer, duration_text, first_failed, older_additions, printed_text, result_view, strict_checks, value, weak_answer, weak_checks, without_whitespace};
 
 use humantime::laws::{
     canonical_again, joined, one_outcome, one_stamp_outcome, printed_bounds,
@@ -27,8 +27,8 @@ pub fn decided_once(text: &str) -> Result<StdDuration, DurationError<'_>>
     ensures outcome { ExactlyOne (IsOutcome (chars text.now)) }
     ensures reading { (ss : List SpelledSpan) (ts : List SpelledSpan) → Reads (chars text.now) ss
         → Reads (chars text.now) ts → ss ≡ ts }
-    ensures items { ExactlyOne (λ (list : List SpelledSpan × Option Fault).
-        Items (chars text.now) list.0 list.1) }
+    ensures items { ExactlyOne (λ (x : SpansAndStop).
+        Items (chars text.now) x.spans x.stop) }
     ensures value { (v : ℕ) → (duration_answer (chars text.now) ≡ Ok v)
         ↔ Accepted (chars text.now) v }
     ensures fault { (e : Fault) → (duration_answer (chars text.now) ≡ Err e)
@@ -43,8 +43,8 @@ pub fn decided_once(text: &str) -> Result<StdDuration, DurationError<'_>>
 /// their limits and by the table of first errors. A string accepted by the rule that trailing zeros
 /// count is accepted with the same value, and any spans add what they add by that rule.
 pub fn decided(text: &str) -> Result<StdDuration, DurationError<'_>>
-    ensures one { ExactlyOne (λ (list : List SpelledSpan × Option Fault).
-        Items (chars text.now) list.0 list.1) }
+    ensures one { ExactlyOne (λ (x : SpansAndStop).
+        Items (chars text.now) x.spans x.stop) }
     ensures accepted { (ss : List SpelledSpan) (stop : Option Fault)
         → Items (chars text.now) ss stop → chars text.now ≢ bare_zero → (v : ℕ)
         → Accepted (chars text.now) v ↔ ((stop ≡ None) × WithinLimits ss × (value ss ≡ v)) }

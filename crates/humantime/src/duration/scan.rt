@@ -8,10 +8,11 @@
 ghost use Rattle.std.specs.Prelude.{◌≡◌, ◌==◌, ◌+◌, ◌++◌, ◌<◌, ◌&&◌, ◌||◌, true, chars, option_map, IfSome, ◌≢◌};
 ghost use Rattle.std.specs.Prelude.{IfOk, MatchResult, length};
 ghost use Rattle.humantime.specs.Characters.{begins, drop_while, is_digit, is_letter, is_whitespace, offset_of, take_while};
-ghost use Rattle.humantime.specs.DurationErrors.{IsCharStartIn, after_point, IsRangeIn, PointsInto};
+ghost use Rattle.humantime.specs.DurationErrors.{IsCharStartIn, after_point, PointsInto};
 ghost use Rattle.humantime.specs.PrivateFunctions;
 ghost use Rattle.humantime.specs.PrivateFunctions.{IsAfterWhitespace, IsNumberAt, number_view, read_view, read_span_view};
 ghost use Rattle.humantime.specs.PrivateTypes.{IsTail, fraction_view};
+ghost use Rattle.humantime.specs.SpanResults.{IsSpanIn};
 ghost use Rattle.humantime.specs.Walks.{at_letter_or_end};
 
 use crate::duration::digits::{Fraction, push_digit};
@@ -262,8 +263,7 @@ pub(crate) fn read_span<'a>(text: &'a str, rest: &'a str) -> ReadSpan<'a>
     ensures read { read_span_view result
         ≡ PrivateFunctions.read_span (chars text.now) (chars rest.now) }
     ensures rest { IfOk result (λ x. IsTail text.now x.1.now) }
-    ensures offsets { MatchResult result (λ x. IsRangeIn text.now x.0.start x.0.end)
-        (PointsInto text.now) }
+    ensures offsets { MatchResult result (λ x. IsSpanIn text.now x.0) (PointsInto text.now) }
 {
     if !begins_with_digit(rest) {
         return Err(DurationError::NumberExpected(offset_in(text, rest)));
@@ -306,8 +306,7 @@ fn complete_span<'a>(
     ensures read { read_span_view result
         ≡ PrivateFunctions.read_span (chars text.now) (chars rest.now) }
     ensures rest { IfOk result (λ x. IsTail text.now x.1.now) }
-    ensures offsets { MatchResult result (λ x. IsRangeIn text.now x.0.start x.0.end)
-        (PointsInto text.now) }
+    ensures offsets { MatchResult result (λ x. IsSpanIn text.now x.0) (PointsInto text.now) }
 {
     let (unit, after_word) = read_word(after_digits);
     // `1foo~` is wrong at the `~`, so what follows the word is tested before the word.
