@@ -23,7 +23,7 @@ use Rattle.humantime.proofs.TimestampParts.{has_two_from_test, number_of_two, nu
 
 -- ==== The meaning of each check on a timestamp.
 
--- No check of the weak form fails.
+-- No check of the weak format fails.
 pub all_passed : (bytes : List ℕ) → first_failed (weak_checks bytes) ≡ None
     → (19 ≤ length bytes) × (has_punctuation bytes ≡ true) × (has_digits bytes ≡ true)
     × (is_valid_date_time (date_time_of bytes) ≡ true)
@@ -42,7 +42,7 @@ abbrev pub digits_after_point : List ℕ → Option (List ℕ)
 digits_after_point [] = None
 digits_after_point (_ ∷ ds) = Some ds
 
--- The parts at their positions.
+-- The fields at their positions.
 abbrev pub fields_of : List ℕ → Fields
 fields_of bytes = record {
   date = (date_time_of bytes).date;

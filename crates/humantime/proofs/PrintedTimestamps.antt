@@ -161,7 +161,7 @@ day_cmp : (a b : Date) (o : Ordering) → IsDate a → IsDate b
 day_cmp a b o va vb =
     grind (arith, nat_tests, valid_from_test, (before_later a va), (before_later b vb))
 
--- The text of parts with `T` and `Z`.
+-- The text of fields with `T` and `Z`.
 abbrev marked : Fields → List ℕ
 marked f = fields_text (record f { separator = Letter_T; zone = Letter_Z })
 
@@ -225,7 +225,7 @@ shown_moment : (t k time : ℕ) (date : Date) → k ≤ 9
     → moment_of (printed_fields date time (t % 1_000_000_000) k) ≡ t - t % 10 ^ (9 - k)
 shown_moment t k time date small e within = grind (arith, shown_nanos, cut_nanos, mod-le)
 
--- The parts that are printed represent the moment.
+-- The fields that are printed represent the moment.
 pub shown_printed : (t : ℤ) (k time : ℕ) (date : Date) → k ≤ 9 → IsDateAndSecondOf date time t
     → IsPrinted t k (fields_text (printed_fields date time (nano_of t) k))
 shown_printed (negsuc t) k time date small is = absurd (let whole = is.sum in let no : ⊥ = cc in no)

@@ -178,7 +178,7 @@ strict_is_weak text =
     let in_weak = (weak_outcome text).value in
     let in_strict = (strict_outcome text).value in
     record {
-      parts = strict_is_marked_weak text;
+      fields = strict_is_marked_weak text;
       moment = law;
       weak = λ t given. (in_weak t).1 ((law t).0 ((in_strict t).0 given)).0;
       marked = λ t given. ((law t).0 ((in_strict t).0 given)).1;

@@ -12,7 +12,8 @@ use Rattle.humantime.proofs.Dates.{valid_from_test}
 use Rattle.humantime.proofs.TimestampParts.{digits_hold, IsPlain, plain_bytes, zone_found, number_of_two, number_of_four, digits_from_test, zone_shown, has_two_from_test, holds_before_zone}
 use Rattle.humantime.proofs.Checks.{digits_after_point, fields_of, all_passed, pairs_from_test, part_digits, nineteen}
 
--- ==== A text that represents parts passes the checks, and these are the parts at their positions.
+-- ==== A text that represents fields passes the checks, and these are the fields at their
+-- positions.
 
 -- The digits of a number at its position are parsed to that number.
 two_back : (bytes : List ℕ) (k n : ℕ) → k + 2 ≤ length bytes → slice_index bytes k ≡ 48 + n / 10
@@ -67,7 +68,7 @@ pub weak_fields : (bytes : List ℕ) (f : Fields) → IsWeak bytes f
     → (first_failed (weak_checks bytes) ≡ None) × (f ≡ fields_of bytes)
 weak_fields bytes f w = rw w.text (written_passes f (rw w.text at w))
 
--- ==== A text that fails no check represents the parts at their positions.
+-- ==== A text that fails no check represents the fields at their positions.
 
 pair_shown : (bytes : List ℕ) (k : ℕ) → k + 2 ≤ length bytes → has_two_digits bytes k ≡ true
     → (slice_index bytes k ≡ 48 + number_between bytes k (k + 2) / 10)
@@ -109,7 +110,7 @@ unfolding is_valid_date_time
 fields_weak bytes passed =
     grind (arith, (all_passed bytes passed), (written_shown bytes passed), nat_tests, part_digits)
 
--- ==== A text in the strict form is one in the weak form with a `T` and a zone.
+-- ==== A text in the strict format is one in the weak format with a `T` and a zone.
 
 zone_by_end : (bytes : List ℕ) (f : Fields) → IsWeak bytes f → (f.zone ≢ NoZone)
     ↔ (ends_in_zone bytes ≡ true)
@@ -124,7 +125,7 @@ pub strict_is_marked_weak : (bytes : List ℕ) (f : Fields) → IsStrict bytes f
     ↔ (IsWeak bytes f × HasTAndZone bytes)
 strict_is_marked_weak bytes f = grind (arith, zone_by_end)
 
--- The check of the strict form.
+-- The check of the strict format.
 pub strict_checked : (bytes : List ℕ) (f : Fields) → IsStrict bytes f
     ↔ ((has_t_and_zone bytes ≡ true) × IsWeak bytes f)
 unfolding has_t_and_zone
@@ -132,8 +133,8 @@ strict_checked bytes f = grind (arith, strict_is_marked_weak)
 
 -- ==== The two directions of each parser's result, and the laws of parsing.
 
--- If the text represents exactly the parts at their positions, and only if no check fails, then the
--- result by the checks is the one outcome.
+-- If the text represents exactly the fields at their positions, and only if no check fails, then
+-- the result by the checks is the one outcome.
 outcome_of_checks : (bytes : List ℕ) (checks : List Check) (IsShown : Fields → Type 0)
     → ((f : Fields) → IsShown f ↔ ((first_failed checks ≡ None) × (f ≡ fields_of bytes)))
     → HasOneTimestamp checks IsShown (moment_or_error (first_failed checks) (moment_at bytes))

@@ -1,4 +1,4 @@
--- The first error of a text of a duration.
+-- The fault of a text of a duration: its first error.
 use Rattle.std.specs.Prelude.{ℕ, Bool, true, false, List, [], ◌∷◌, Option, Some, None, IsSome, if◌then◌else◌, ◌≡◌, ◌≢◌, ◌⊎◌, ◌++◌, drop, option_map, unwrap_or, encode_utf8_all, ◌<◌, ◌≤◌, length, Result, ⊤, slice_range, codes, decimal}
 use Rattle.std.specs.Borrow.{Bor}
 use Rattle.std.specs.Str.{IsCharBoundary}
@@ -8,7 +8,7 @@ use Rattle.humantime.specs.Durations.{SpelledSpan, SpellsFront, scale_of_word, d
 use Rattle.humantime.specs.declared.duration.error.DurationError.{DurationError}
 use Rattle.humantime.specs.declared.duration.error.DurationError.TheVariants as errors
 
--- ==== The first error of a text that is not accepted, by a table of ten rows, of which exactly one
+-- ==== The fault of a text that is not accepted, by a table of ten rows, of which exactly one
 -- applies. A text is its list of characters; offsets count its bytes, and a fault holds the bytes
 -- of its unit.
 
@@ -47,7 +47,7 @@ after_word rest = drop_while is_letter (after_fraction rest)
 abbrev pub span_of : List ℕ → SpelledSpan
 span_of rest = record { number = number_of rest; fraction = fraction_of rest; word = word_of rest }
 
--- A fault is an error as data: its byte offsets, and the bytes of its unit.
+-- A fault is the first error of a text as data: its byte offsets, and the bytes of its unit.
 pub data Fault : Type 0 where
   InvalidCharacter : (at : ℕ) → Fault
   NumberExpected : (at : ℕ) → Fault
@@ -62,7 +62,7 @@ pub record Split (text front : List ℕ) (spans : List SpelledSpan) (rest : List
   pub spelled : SpellsFront front spans
   pub no_whitespace : begins is_whitespace rest ≡ false
 
--- The rest begins with a number, and neither the number nor its fraction is too long.
+-- The rest begins with a number, and neither the number nor its fraction overflows.
 pub record BeginsWithNumber (rest : List ℕ) : Type 0 where
   pub digit : begins is_digit rest ≡ true
   pub digits_fit : digits_overflow (span_of rest) ≡ false
@@ -82,14 +82,15 @@ pub record BeginsWithSpan (rest : List ℕ) : Type 0 where
 
 -- The first nine rows of the table: after the spans, the rest does not begin with a whole span, and
 -- the fault is `e`.
-pub data IsStoppedWith (text front : List ℕ) (spans : List SpelledSpan) (rest : List ℕ) (e : Fault) : Type 0 where
+pub data IsStoppedWith (text front : List ℕ) (spans : List SpelledSpan) (rest : List ℕ)
+    (e : Fault) : Type 0 where
   -- The text is empty or only whitespace.
   OnlyWhitespace : spans ≡ [] → rest ≡ [] → e ≡ Empty → IsStoppedWith text front spans rest e
   -- A character other than a digit is at the start, or after a span and whitespace.
   NoNumber : rest ≢ [] → begins is_digit rest ≡ false
       → (spans ≡ []) ⊎ (ends is_whitespace front ≡ true)
       → e ≡ NumberExpected (offset_of text rest) → IsStoppedWith text front spans rest e
-  -- The number or its fraction is too long, whatever follows.
+  -- The number or its fraction overflows, whatever follows.
   DigitsOverflow : begins is_digit rest ≡ true → digits_overflow (span_of rest) ≡ true
       → e ≡ NumberOverflow
       → IsStoppedWith text front spans rest e

@@ -38,12 +38,12 @@ view_at text rest = record {
   value = decimal_value (number_of rest);
 }
 
--- The items from `rest` on: the views of the spans, followed by the error that stops them, if any.
--- `first` is true if no span precedes `rest`.
+-- The items from `rest` on: the views of the spans, followed by the fault that stops them, if any.
+-- `at_start` is true if no span precedes `rest`.
 unfoldable pub items_from : Bool → List ℕ → List ℕ → List (Result SpanView Fault)
-items_from first text rest =
+items_from at_start text rest =
     let w = walk_from text rest in
-    items_of (map (view_at text) w.starts) (stop_at (first && length w.starts == 0) text w.rest)
+    items_of (map (view_at text) w.starts) (stop_at (at_start && length w.starts == 0) text w.rest)
 
 -- All items of a text.
 abbrev pub item_views : List ℕ → List (Result SpanView Fault)
@@ -61,14 +61,14 @@ span_in (Err e) = Err e
 
 -- ==== The result of parsing a duration, and the text of a duration, each as one function.
 
--- Returns the duration that a text denotes, in nanoseconds, or its first error.
+-- Returns the duration that a text denotes, in nanoseconds, or its fault.
 unfoldable pub duration_answer : List ℕ → Result ℕ Fault
 duration_answer text =
     if bytes_eq text bare_zero then Ok 0
     else sum_spans 0 (items_of (items text).spans (items text).stop)
 
 -- The result of parsing a text is the duration that it denotes if and only if the text is accepted,
--- and otherwise its first error, which points into the text.
+-- and otherwise its fault, which points into the text.
 pub record IsDurationAnswer (bytes : List ℕ) (r : Result ℕ DurationError) : Type 0 where
   pub value : (v : ℕ) → (result_view r ≡ Ok v) ↔ Accepted (chars bytes) v
   pub fault : (e : Fault) → (result_view r ≡ Err e) ↔ HasFault (chars bytes) e
@@ -85,6 +85,6 @@ divided (w ∷ ws) d = d / w ∷ divided ws (d % w)
 unfoldable pub duration_text : ℕ → List ℕ
 duration_text d = joined_or_zero (printed_counts (divided weights d) suffixes)
 
--- Returns the canonical text of the duration that a text denotes, or its first error.
+-- Returns the canonical text of the duration that a text denotes, or its fault.
 unfoldable pub canonical_answer : List ℕ → Result (List ℕ) Fault
 canonical_answer text = result_map_both duration_text (λ e. e) (duration_answer text)

@@ -132,7 +132,7 @@ quantity_nanos (Seconds n) = n * nanos_per_second
 abbrev pub total : List Quantity → ℕ
 total xs = sum_by quantity_nanos xs
 
--- Returns a quantity of the same kind with another number.
+-- Returns a quantity of the same kind with this number.
 abbrev pub with_size : Quantity → ℕ → Quantity
 with_size (Nanos _) n = Nanos n
 with_size (Seconds _) n = Seconds n
@@ -141,8 +141,8 @@ with_size (Seconds _) n = Seconds n
 abbrev pub times : ℕ → Quantity → Quantity
 times n x = with_size x (n * size x)
 
--- Returns the part of a quantity that the fraction digits `ds` denote without their trailing zeros,
--- rounded down: 0 if no digits are left.
+-- Returns a quantity times the fraction with the digits `ds`, rounded down. Trailing zeros do not
+-- count; the fraction without digits is 0.
 abbrev pub fraction_times : List ℕ → Quantity → Quantity
 fraction_times ds x = let kept = without_trailing_zeros ds in
     with_size x (decimal_value kept * size x / 10 ^ length kept)
@@ -193,7 +193,7 @@ has_too_many_digits fraction =
 abbrev pub digits_overflow : SpelledSpan → Bool
 digits_overflow s = nat_lt u64_max (decimal_value s.number) || has_too_many_digits s.fraction
 
--- The span is not `digits_overflow`, and its word is a unit.
+-- Neither the number nor the fraction overflows, and the word is a unit.
 pub record Formed (s : SpelledSpan) : Type 0 where
   pub digits_fit : digits_overflow s ≡ false
   pub word : IsSome (scale_of_word s.word)
@@ -202,7 +202,7 @@ pub record Formed (s : SpelledSpan) : Type 0 where
 abbrev pub is_exact_part : ℕ → ℕ → ℕ → Bool
 is_exact_part n number count = fits_u64 (number * n) && (number * n % 10 ^ count == 0)
 
--- Tests whether the part of `n` that the fraction digits `ds` denote passes `is_exact_part`.
+-- Tests with `is_exact_part` the part of `n` that the fraction digits `ds` denote.
 abbrev pub is_exact_fraction : ℕ → List ℕ → Bool
 is_exact_fraction n ds = is_exact_part n (decimal_value ds) (length ds)
 

@@ -57,7 +57,8 @@ IsFractionSlice text (Some slice) =
     (after : List ℕ) × (text ≡ byte "." ∷ after) × IsDigitSlice after slice
 
 -- The text from `here` on is the span followed by `next`, and `x` is the view of the span.
-pub record IsSpanView (text here : List ℕ) (s : SpelledSpan) (x : SpanView) (next : List ℕ) : Type 0 where
+pub record IsSpanView (text here : List ℕ) (s : SpelledSpan) (x : SpanView)
+    (next : List ℕ) : Type 0 where
   pub spelled : Spells here s next
   pub number : IsDigitSlice spelled.number_text x.number
   pub fraction : IsFractionSlice spelled.fraction_text x.fraction

@@ -100,7 +100,7 @@ pub record KeepValueReordered (a b : List ℕ) : Type 0 where
 -- ==== Texts that slices tile. A text is its list of characters.
 
 -- Returns the slices of an item from left to right: the number, the fraction, if any, and the unit
--- of a span, or none for an error.
+-- of a span, or none for a fault.
 abbrev pub slices_of : Result SpanView Fault → List (List ℕ)
 slices_of (Ok span) = span.number ∷ option_to_list span.fraction ++ span.unit ∷ []
 slices_of (Err e) = []
@@ -117,7 +117,7 @@ IsTiled text [] = HasOnly is_gap text
 IsTiled text (slice ∷ slices) = (gap : List ℕ) × (after : List ℕ) × (text ≡ gap ++ (slice ++ after))
     × HasOnly is_gap gap × IsTiled after slices
 
--- ==== The outcome of a text: exactly one value or exactly one error, at most one list of spans and
+-- ==== The outcome of a text: exactly one value or exactly one fault, at most one list of spans and
 -- one list of items; and how its items determine the outcome. A text is its list of characters.
 
 -- The outcome of a text is the value with which it is accepted, or its fault.
@@ -131,18 +131,18 @@ pub record HasOneOutcome (text : List ℕ) : Type 0 where
   -- The text has exactly one value and no fault, or exactly one fault and no value.
   pub outcome : ExactlyOne (IsOutcome text)
   pub reading : AtMostOne (Reads text)
-  -- The text has exactly one list of spans, with the error that stops them, if any.
+  -- The text has exactly one list of spans, with the fault that stops them, if any.
   pub items : ExactlyOne (AreSpansAndStop text)
   -- The result of parsing is a value if and only if that is the value of the text.
   pub value : (v : ℕ) → (duration_answer text ≡ Ok v) ↔ Accepted text v
-  -- The result of parsing is an error if and only if that is the fault of the text.
+  -- The result of parsing is a fault if and only if that is the fault of the text.
   pub fault : (e : Fault) → (duration_answer text ≡ Err e) ↔ HasFault text e
 
 -- The items of a text determine its value or fault, unless the text is exactly `0`.
 pub record ItemsDecide (text : List ℕ) : Type 0 where
-  -- The text has exactly one list of spans, with the error that stops them, if any.
+  -- The text has exactly one list of spans, with the fault that stops them, if any.
   pub one : ExactlyOne (AreSpansAndStop text)
-  -- The text is accepted if and only if no error stops the spans and they are within the limits.
+  -- The text is accepted if and only if no fault stops the spans and they are within the limits.
   -- Its value is then their sum.
   pub accepted : (spans : List SpelledSpan) (stop : Option Fault) → Items text spans stop
       → text ≢ bare_zero
@@ -151,7 +151,7 @@ pub record ItemsDecide (text : List ℕ) : Type 0 where
   pub stopped : (spans : List SpelledSpan) (e : Fault) → Items text spans (Some e)
       → text ≢ bare_zero
       → WithinLimits spans → HasFault text e
-  -- Therefore, if the first item is an error, it is the result of parsing.
+  -- Therefore, if the first item is a fault, it is the result of parsing.
   pub first : (listed others : List (Result SpanView Fault)) (e : Fault) → AreItems text listed
       → listed ≡ Err e ∷ others
       → text ≢ bare_zero → duration_answer text ≡ Err e
@@ -170,7 +170,7 @@ pub record ItemsTile (text : List ℕ) : Type 0 where
   -- and is whitespace or a point.
   pub front : (listed : List (Result SpanView Fault)) (are : AreItems text listed)
       → IsTiled are.items.front (flat_map slices_of listed)
-  -- If no item is an error, this holds for each character of the text.
+  -- If no item is a fault, this holds for each character of the text.
   pub whole : (listed : List (Result SpanView Fault)) → AreItems text listed
       → list_all is_ok listed ≡ true
       → IsTiled text (flat_map slices_of listed)
@@ -217,7 +217,7 @@ pub record IsCanonicalAgain (s : List ℕ) : Type 0 where
   pub answer : (t : List ℕ) → canonical_answer (chars s) ≡ Ok t → canonical_answer (chars t) ≡ Ok t
   pub reads : (v : ℕ) (t : List ℕ) → duration_answer (chars s) ≡ Ok v
       → canonical_answer (chars s) ≡ Ok t → duration_answer (chars t) ≡ Ok v
-  -- The result is the canonical text, or the first error.
+  -- The result is the canonical text, or the fault.
   pub text : (t : List ℕ) → (canonical_answer (chars s) ≡ Ok t) ↔ CanonicalizesTo s t
   pub fault : (e : Fault) → (canonical_answer (chars s) ≡ Err e) ↔ HasFault (chars s) e
 
@@ -292,7 +292,7 @@ pub record KeepsValueWithZeros (text : List ℕ) : Type 0 where
 
 -- A `T` separates the date from the time, and the text ends in `Z` or `+00:00`.
 abbrev pub HasTAndZone : List ℕ → Type 0
-HasTAndZone b = (slice_index b 10 ≡ byte "T") × IsTrue (ends_in_zone b)
+HasTAndZone bytes = (slice_index bytes 10 ≡ byte "T") × IsTrue (ends_in_zone bytes)
 
 -- The printed texts of two moments with the same number of digits compare, byte by byte, like the
 -- moments rounded down to these digits.
@@ -301,12 +301,12 @@ PrintInOrder a b =
     (k : ℕ) (x y : List ℕ) → IsPrinted a k x → IsPrinted b k y
     → slice_cmp nat_cmp x y ≡ int_cmp (cut a k) (cut b k)
 
--- The text represents this moment in both forms.
+-- The text represents this moment in both formats.
 pub record ReadsAs (bytes : List ℕ) (t : ℤ) : Type 0 where
   pub strict : IsStrictMoment bytes t
   pub weak : IsWeakMoment bytes t
 
--- The text represents parts if and only if no check fails, and then exactly one set of them. The
+-- The text represents fields if and only if no check fails, and then exactly one set of them. The
 -- result of parsing is their moment, or the error of the first check that fails.
 pub record HasOneTimestamp (checks : List Check) (Represents : Fields → Type 0)
     (answer : Result ℤ TimestampError) : Type 0 where
@@ -315,19 +315,19 @@ pub record HasOneTimestamp (checks : List Check) (Represents : Fields → Type 0
   pub value : (t : ℤ) → (answer ≡ Ok t) ↔ ((f : Fields) × Represents f × (t ≡ pos (moment_of f)))
   pub error : (e : TimestampError) → (answer ≡ Err e) ↔ (first_failed checks ≡ Some e)
 
--- The strict form is the weak form with a `T` and a zone.
+-- The strict format is the weak format with a `T` and a zone.
 pub record StrictIsWeak (text : List ℕ) : Type 0 where
-  -- A text represents parts in the strict form if and only if it does so in the weak form and has a
-  -- `T` and a zone.
-  pub parts : (f : Fields) → IsStrict text f ↔ (IsWeak text f × HasTAndZone text)
+  -- A text represents fields in the strict format if and only if it does so in the weak format and
+  -- has a `T` and a zone.
+  pub fields : (f : Fields) → IsStrict text f ↔ (IsWeak text f × HasTAndZone text)
   -- The same holds of a moment.
   pub moment : (t : ℤ) → IsStrictMoment text t ↔ (IsWeakMoment text t × HasTAndZone text)
-  -- A text that is parsed in the strict form is also parsed in the weak form, and has a `T` and a
-  -- zone.
+  -- A text that is parsed in the strict format is also parsed in the weak format, and has a `T` and
+  -- a zone.
   pub weak : (t : ℤ) → strict_answer text ≡ Ok t → weak_answer text ≡ Ok t
   pub marked : (t : ℤ) → strict_answer text ≡ Ok t → HasTAndZone text
-  -- A text that is parsed in the weak form, and has a `T` and a zone, is also parsed in the strict
-  -- form.
+  -- A text that is parsed in the weak format, and has a `T` and a zone, is also parsed in the
+  -- strict format.
   pub strict : (t : ℤ) → weak_answer text ≡ Ok t → HasTAndZone text → strict_answer text ≡ Ok t
 
 -- A moment in 1970 to 9999 has exactly one printed text with `k` digits. `Display` writes it, and
@@ -337,7 +337,7 @@ pub record MomentPrintsAndReads (t : ℤ) (k : ℕ) : Type 0 where
   -- `Display` writes this text.
   pub displayed : (text : List ℕ) → (moment_text t k ≡ Some text)
       ↔ (IsPrintable t × IsPrinted t k text)
-  -- The text represents the moment, rounded down, in both forms.
+  -- The text represents the moment, rounded down, in both formats.
   pub reads : (text : List ℕ) → IsPrinted t k text → ReadsAs text (cut t k)
   -- Therefore both parsers return the moment, rounded down.
   pub strict : (text : List ℕ) → IsPrinted t k text → strict_answer text ≡ Ok (cut t k)

@@ -33,7 +33,7 @@ pub record AreCounts (d : ℕ) (counts : List ℕ) : Type 0 where
       → weighted_sum weights others ≡ d
       → IsTrue (is_le (slice_cmp nat_cmp others counts))
 
--- A suffix is the unit that follows a count, and whether an `s` follows the unit of a count above 1.
+-- A suffix is the unit that follows a count, and whether an `s` follows it if the count is above 1.
 pub record Suffix : Type 0 where
   pub unit : List ℕ
   pub has_plural : Bool

@@ -79,14 +79,14 @@ number_view n = record {
   fraction = option_map (λ f. (fraction_view f).text) n.fraction;
 }
 
--- Reads the number at the start of a text. A number that does not fit in a `u64` is too long.
+-- Reads the number at the start of a text, which must fit in a `u64`.
 abbrev pub read_number : List ℕ → Read NumberView
 read_number text =
     if nat_lt u64_max (decimal_value (number_of text)) then None
     else Some (record { text = take_while in_number text; fraction = None }, after_number text)
 
--- Reads the digits of a fraction at the start of a text, if any. More than 19 before the trailing
--- zeros are too long.
+-- Reads the digits of a fraction at the start of a text, if any, of which at most 19 may precede
+-- the trailing zeros.
 abbrev pub read_fraction : List ℕ → Read FractionView
 read_fraction text =
     if has_too_many_digits (Some (number_of text)) then None
@@ -112,7 +112,7 @@ read_span text rest = elim (fault_at text rest) [
   | Some e ↦ Err e
 ]
 
--- The view of a span that was read and the characters of the rest, or the fault of the error.
+-- The view of a span that was read and the characters of the rest, or the fault of its error.
 abbrev pub read_span_view : Result (Span × Bor (List ℕ)) DurationError
     → Result (SpanView × List ℕ) Fault
 read_span_view r = result_map_both (λ x. (span_view x.0, chars x.1.now)) fault_of r
@@ -122,7 +122,7 @@ abbrev pub spelled_in : Span → SpelledSpan
 spelled_in s = let x = span_view s in spelled x.number x.fraction x.unit
 
 -- The number at the start of `rest` and its fraction, if any, were read, and `after` follows them:
--- these are their texts, neither is too long, and no point is bare.
+-- these are their texts, neither overflows, and no point is bare.
 pub record IsNumberAt (rest : List ℕ) (number : Number) (after : List ℕ) : Type 0 where
   pub digit : begins is_digit (chars rest) ≡ true
   pub digits_fit : digits_overflow (span_of (chars rest)) ≡ false
@@ -159,11 +159,11 @@ abbrev pub fraction_answer : List ℕ → Result ℕ TimestampError
 fraction_answer part = if may_be_fraction part then digits_answer (drop 1 part)
     else Err InvalidFormat
 
--- The moment `t` is on this date, `time` whole seconds after midnight.
-pub record IsDateAndSecondOf (date : Date) (time : ℕ) (t : ℤ) : Type 0 where
+-- The moment `t` is on this date, in this second after midnight.
+pub record IsDateAndSecondOf (date : Date) (second_of_day : ℕ) (t : ℤ) : Type 0 where
   pub date_exists : IsDate date
-  pub within_day : time < seconds_per_day
-  pub sum : pos (day_of date * seconds_per_day + time) ≡ second_of t
+  pub within_day : second_of_day < seconds_per_day
+  pub sum : pos (day_of date * seconds_per_day + second_of_day) ≡ second_of t
 
 -- ==== The text that a writer has written to its buffer.
 

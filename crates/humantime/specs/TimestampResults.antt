@@ -55,29 +55,30 @@ date_of n =
 abbrev pub moment_at : List ℕ → ℕ
 moment_at bytes =
     let x = date_time_of bytes in
-    seconds_of x.date x.hour x.minute x.second * nanos_per_second + fraction_nanos (drop 1 (fraction_part bytes))
+    seconds_of x.date x.hour x.minute x.second * nanos_per_second
+    + fraction_nanos (drop 1 (fraction_part bytes))
 
 -- The moment `t`, or the error of the check that failed.
 abbrev pub moment_or_error : Option TimestampError → ℕ → Result ℤ TimestampError
 moment_or_error None t = Ok (pos t)
 moment_or_error (Some e) t = Err e
 
--- The result of parsing in the weak form: the moment, or the error of the first check that fails.
+-- The result of parsing in the weak format: the moment, or the error of the first check that fails.
 unfoldable pub weak_answer : List ℕ → Result ℤ TimestampError
 weak_answer bytes = moment_or_error (first_failed (weak_checks bytes)) (moment_at bytes)
 
--- The result of parsing in the strict form.
+-- The result of parsing in the strict format.
 unfoldable pub strict_answer : List ℕ → Result ℤ TimestampError
 strict_answer bytes = moment_or_error (first_failed (strict_checks bytes)) (moment_at bytes)
 
--- The result of parsing in the weak form is `Ok(t)` if and only if the text represents `t` in that
--- form, and `Err(e)` if and only if `e` is the error of the first check that fails.
+-- The result of parsing in the weak format is `Ok(t)` if and only if the text represents `t` in
+-- that format, and `Err(e)` if and only if `e` is the error of the first check that fails.
 pub record IsWeakAnswer (bytes : List ℕ) (r : Result ℤ TimestampError) : Type 0 where
   pub value : (t : ℤ) → (r ≡ Ok t) ↔ IsWeakMoment bytes t
   pub error : (e : TimestampError) → (r ≡ Err e) ↔ (first_failed (weak_checks bytes) ≡ Some e)
   pub answer : r ≡ weak_answer bytes
 
--- The same for the strict form.
+-- The same for the strict format.
 pub record IsStrictAnswer (bytes : List ℕ) (r : Result ℤ TimestampError) : Type 0 where
   pub value : (t : ℤ) → (r ≡ Ok t) ↔ IsStrictMoment bytes t
   pub error : (e : TimestampError) → (r ≡ Err e) ↔ (first_failed (strict_checks bytes) ≡ Some e)
@@ -100,8 +101,8 @@ abbrev pub last_digits : ℕ → ℕ → List ℕ
 last_digits zero n = []
 last_digits (suc k) n = digit (n / 10 ^ k % 10) ∷ last_digits k n
 
--- The parts that are printed for a date, a time in seconds after midnight and its nanoseconds, with
--- `k` fraction digits.
+-- The fields that are printed for a date, a time in seconds after midnight and its nanoseconds,
+-- with `k` fraction digits.
 abbrev pub printed_fields : Date → ℕ → ℕ → ℕ → Fields
 printed_fields date time nanos k = record {
   date = date;
@@ -113,11 +114,12 @@ printed_fields date time nanos k = record {
   zone = Letter_Z;
 }
 
--- The parts that are printed for a moment in 1970 or later, with `k` fraction digits.
+-- The fields that are printed for a moment in 1970 or later, with `k` fraction digits.
 abbrev pub fields_at : ℕ → ℕ → Fields
 fields_at t k =
     let second = t / nanos_per_second in
-    printed_fields (date_of (second / seconds_per_day)) (second % seconds_per_day) (t % nanos_per_second) k
+    printed_fields (date_of (second / seconds_per_day)) (second % seconds_per_day)
+    (t % nanos_per_second) k
 
 -- The printed text of a moment with `k` fraction digits, or `None` outside 1970 to 9999.
 unfoldable pub moment_text : ℤ → ℕ → Option (List ℕ)

@@ -1,4 +1,4 @@
--- Timestamps: the parts of a text and the moment that it represents, the checks of the parsers, and
+-- Timestamps: the fields of a text and the moment that they denote, the checks of the parsers, and
 -- the printed text of a moment.
 use Rattle.std.specs.Prelude.{ℕ, ◌+◌, ◌/◌, ◌%◌, List, [], ◌∷◌, ◌≡◌, ◌≢◌, ◌*◌, ◌≤◌, min, ◌++◌, take, codes, Option, Some, None, ℤ, pos, unwrap_or, IsTrue, ◌-◌, Bool, ◌&&◌, ◌||◌, ◌==◌, nat_le, nat_eq, if◌then◌else◌, length, drop, slice_index, slice_range, ◌^◌, option_map, ◌≤ℤ◌, ◌<ℤ◌, ◌-ℤ◌}
 use Rattle.std.specs.Str.{byte, all_ascii_digits}
@@ -13,7 +13,7 @@ use Rattle.humantime.specs.declared.date.error.TimestampError.{TimestampError}
 use Rattle.humantime.specs.declared.date.parse.DateTime.{DateTime}
 use Rattle.humantime.specs.declared.date.error.TimestampError.TheVariants.{OutOfRange, InvalidDigit, InvalidFormat}
 
--- ==== The parts of a timestamp, the texts that represent them, and the moment that they denote. A
+-- ==== The fields of a timestamp, the texts that represent them, and the moment that they denote. A
 -- text is its list of bytes.
 
 -- Returns the ASCII digit of a number below 10.
@@ -39,7 +39,7 @@ pub data Zone : Type 0 where
   Letter_Z : Zone
   ZeroOffset : Zone
 
--- The parts of a timestamp: the date, the separator, the time, the digits of the fraction of a
+-- The fields of a timestamp: the date, the separator, the time, the digits of the fraction of a
 -- second, if any, and the zone.
 pub record Fields : Type 0 where
   pub date : Date
@@ -69,11 +69,11 @@ zone_text ZeroOffset = codes "+00:00"
 -- Returns `YYYY-MM-DD`, the separator and `HH:MM:SS`.
 abbrev pub date_time_text : Fields → List ℕ
 date_time_text f =
-    four_digits f.date.year ++ codes "-" ++ two_digits f.date.month ++ codes "-" ++ two_digits f.date.day
-    ++ separator_byte f.separator ∷ two_digits f.hour ++ codes ":" ++ two_digits f.minute
-    ++ codes ":" ++ two_digits f.second
+    four_digits f.date.year ++ codes "-" ++ two_digits f.date.month ++ codes "-"
+    ++ two_digits f.date.day ++ separator_byte f.separator ∷ two_digits f.hour ++ codes ":"
+    ++ two_digits f.minute ++ codes ":" ++ two_digits f.second
 
--- Returns the text of all parts: the date and the time, followed by the fraction and the zone.
+-- Returns the text of all fields: the date and the time, followed by the fraction and the zone.
 abbrev pub fields_text : Fields → List ℕ
 fields_text f = date_time_text f ++ fraction_text f.fraction ++ zone_text f.zone
 
@@ -85,8 +85,8 @@ fraction_digits fraction = unwrap_or fraction []
 unfoldable pub fraction_nanos : List ℕ → ℕ
 fraction_nanos ds = decimal_value (take 9 (ds ++ codes "000000000"))
 
--- The text represents these parts in the weak form: the date exists; hour, minute and second are at
--- most 23, 59 and 60; and the fraction, if any, has only digits.
+-- The text represents these fields in the weak format: the date exists; hour, minute and second are
+-- at most 23, 59 and 60; and the fraction, if any, has only digits.
 pub record IsWeak (bytes : List ℕ) (f : Fields) : Type 0 where
   pub text : bytes ≡ fields_text f
   pub date : IsDate f.date
@@ -95,7 +95,8 @@ pub record IsWeak (bytes : List ℕ) (f : Fields) : Type 0 where
   pub second : f.second ≤ 60
   pub fraction : IsTrue (all_ascii_digits (fraction_digits f.fraction))
 
--- The text represents these parts in the strict form, which is the weak form with a `T` and a zone.
+-- The text represents these fields in the strict format, which is the weak format with a `T` and a
+-- zone.
 pub record IsStrict (bytes : List ℕ) (f : Fields) : Type 0 where
   pub weak : IsWeak bytes f
   pub separator : f.separator ≡ Letter_T
@@ -105,18 +106,19 @@ pub record IsStrict (bytes : List ℕ) (f : Fields) : Type 0 where
 -- second 59.
 abbrev pub seconds_of : Date → ℕ → ℕ → ℕ → ℕ
 seconds_of date hour minute second =
-    day_of date * seconds_per_day + hour * seconds_per_hour + minute * seconds_per_minute + min second 59
+    day_of date * seconds_per_day + hour * seconds_per_hour + minute * seconds_per_minute
+    + min second 59
 
--- Returns the moment of the parts, in nanoseconds since 1970-01-01T00:00:00Z.
+-- Returns the moment of the fields, in nanoseconds since 1970-01-01T00:00:00Z.
 abbrev pub moment_of : Fields → ℕ
 moment_of f = seconds_of f.date f.hour f.minute f.second * nanos_per_second
     + fraction_nanos (fraction_digits f.fraction)
 
--- The text represents the moment `t` in the weak form.
+-- The text represents the moment `t` in the weak format.
 abbrev pub IsWeakMoment : List ℕ → ℤ → Type 0
 IsWeakMoment bytes t = (f : Fields) × IsWeak bytes f × (t ≡ pos (moment_of f))
 
--- The text represents the moment `t` in the strict form.
+-- The text represents the moment `t` in the strict format.
 abbrev pub IsStrictMoment : List ℕ → ℤ → Type 0
 IsStrictMoment bytes t = (f : Fields) × IsStrict bytes f × (t ≡ pos (moment_of f))
 
@@ -142,7 +144,8 @@ before_zone bytes = take (length bytes - length (zone_text (zone_of bytes))) byt
 
 -- Tests whether the text has at least 20 bytes, a `T` at byte 10, and a zone at the end.
 unfoldable pub has_t_and_zone : List ℕ → Bool
-has_t_and_zone b = nat_le 20 (length b) && (slice_index b 10 == byte "T") && ends_in_zone b
+has_t_and_zone bytes =
+    nat_le 20 (length bytes) && (slice_index bytes 10 == byte "T") && ends_in_zone bytes
 
 -- Tests whether a `T` or a space separates the date from the time.
 unfoldable pub has_separator : List ℕ → Bool
@@ -159,26 +162,25 @@ unfoldable pub has_two_digits : List ℕ → ℕ → Bool
 has_two_digits bytes k = is_ascii_digit (slice_index bytes k)
     && is_ascii_digit (slice_index bytes (k + 1))
 
--- Tests whether the 14 of the first 19 bytes that `has_separator` and `has_punctuation` do not test
--- are digits.
+-- Tests whether bytes 0 to 3, 5, 6, 8, 9, 11, 12, 14, 15, 17 and 18 are digits.
 unfoldable pub has_digits : List ℕ → Bool
-has_digits b = list_all (λ k. has_two_digits b k) (0 ∷ 2 ∷ 5 ∷ 8 ∷ 11 ∷ 14 ∷ 17 ∷ [])
+has_digits bytes = list_all (λ k. has_two_digits bytes k) (0 ∷ 2 ∷ 5 ∷ 8 ∷ 11 ∷ 14 ∷ 17 ∷ [])
 
 -- Returns the value of the digits from one byte offset to another.
 unfoldable pub number_between : List ℕ → ℕ → ℕ → ℕ
-number_between b from to = decimal_value (slice_range b from to)
+number_between bytes from to = decimal_value (slice_range bytes from to)
 
 -- Returns the date and time of the first 19 bytes, which may be out of range.
 abbrev pub date_time_of : List ℕ → DateTime
-date_time_of b = record {
+date_time_of bytes = record {
   date = record {
-    year = number_between b 0 4;
-    month = number_between b 5 7;
-    day = number_between b 8 10;
+    year = number_between bytes 0 4;
+    month = number_between bytes 5 7;
+    day = number_between bytes 8 10;
   };
-  hour = number_between b 11 13;
-  minute = number_between b 14 16;
-  second = number_between b 17 19;
+  hour = number_between bytes 11 13;
+  minute = number_between bytes 14 16;
+  second = number_between bytes 17 19;
 }
 
 -- Tests whether the date exists and hour, minute and second are at most 23, 59 and 60.
@@ -200,7 +202,7 @@ pub record Check : Type 0 where
   pub passes : Bool
   pub error : TimestampError
 
--- The checks of the weak form in order.
+-- The checks of the weak format in order.
 abbrev pub weak_checks : List ℕ → List Check
 weak_checks bytes =
     record { passes = nat_le 19 (length bytes); error = InvalidFormat }
@@ -211,7 +213,7 @@ weak_checks bytes =
     ∷ record { passes = all_ascii_digits (drop 1 (fraction_part bytes)); error = InvalidDigit }
     ∷ []
 
--- The checks of the strict form: `has_t_and_zone`, followed by those of the weak form.
+-- The checks of the strict format: that for a `T` and a zone, followed by those of the weak format.
 abbrev pub strict_checks : List ℕ → List Check
 strict_checks bytes =
     record { passes = has_t_and_zone bytes; error = InvalidFormat } ∷ weak_checks bytes

@@ -6,7 +6,7 @@ use Rattle.humantime.specs.Durations.{Quantity, scale_of_word, SpelledSpan, quan
 use Rattle.humantime.specs.DurationErrors.{number_of, after_number, fraction_of, after_fraction, word_of, after_word, span_of, may_follow_span, Fault, InvalidCharacter, NumberExpected, UnknownUnit, NumberOverflow, Empty}
 use Rattle.humantime.specs.Items.{SpansAndStop}
 
--- Tests whether a text may begin a word: it is empty, or begins with a letter.
+-- Tests whether a text is empty or begins with a letter.
 abbrev pub at_letter_or_end : List ℕ → Bool
 at_letter_or_end [] = true
 at_letter_or_end (c ∷ cs) = is_letter c
@@ -17,10 +17,12 @@ abbrev pub has_bare_point : List ℕ → Bool
 has_bare_point rest =
     is_some_and (λ ds. length ds == 0) (fraction_of rest) && at_letter_or_end (after_fraction rest)
 
--- Returns the fault at the start of `rest`, if any: that of the first of these that holds. `rest`
--- does not begin with a digit; its number or its fraction is too long; a point has no digits; a
--- character other than a digit or whitespace follows the word, which may be empty; the word is not
--- a unit.
+-- Returns the fault at the start of `rest`, if any. The first line that applies decides:
+-- - `rest` does not begin with a digit.
+-- - The number or the fraction overflows.
+-- - The point has no digits, and a letter or the end follows it.
+-- - A character other than a digit or whitespace follows the word, which may be empty.
+-- - The word is not a unit.
 unfoldable pub fault_at : List ℕ → List ℕ → Option Fault
 fault_at text rest =
     if not (begins is_digit rest) then Some (NumberExpected (offset_of text rest))
@@ -32,8 +34,8 @@ fault_at text rest =
     else Some (UnknownUnit (offset_of text (after_fraction rest)) (offset_of text (after_word rest))
     (encode_utf8_all (word_of rest)) (decimal_value (number_of rest)))
 
--- The rest of the text at the start of each span, and the rest after them, where an error stops
--- them or the text ends.
+-- The rest of the text at the start of each span, and the rest after them, where a fault stops them
+-- or the text ends.
 pub record Walk : Type 0 where
   pub starts : List (List ℕ)
   pub rest : List ℕ
@@ -55,11 +57,11 @@ walk_from text rest = walk (suc (length rest)) text rest
 abbrev pub walk_of : List ℕ → Walk
 walk_of text = walk_from text (drop_while is_whitespace text)
 
--- The error at the rest after the spans, if any. At the end of the text, it is an error if there is
--- no span.
+-- The fault at the rest after the spans, if any. At the end of the text, it is `Empty` if there are
+-- no spans.
 abbrev pub stop_at : Bool → List ℕ → List ℕ → Option Fault
-stop_at none text [] = if none then Some Empty else None
-stop_at none text (c ∷ cs) = fault_at text (c ∷ cs)
+stop_at no_spans text [] = if no_spans then Some Empty else None
+stop_at no_spans text (c ∷ cs) = fault_at text (c ∷ cs)
 
 -- The spans of a text, and the fault that stops them, if any.
 unfoldable pub items : List ℕ → SpansAndStop
@@ -81,7 +83,7 @@ unfoldable pub add_span : ℕ → SpelledSpan → Option ℕ
 add_span t s = if fits s then add_all t (additions_of s) else None
 
 -- Returns the sum of `t` and the spans, `NumberOverflow` at the first span that breaks a limit, or
--- the error that stops them, if any.
+-- the fault that stops them, if any.
 unfoldable pub sum_spans : ℕ → List (Result SpelledSpan Fault) → Result ℕ Fault
 sum_spans t [] = Ok t
 sum_spans t (Err e ∷ items) = Err e

@@ -1,8 +1,8 @@
 //! The units of time: their sizes, their words, and what one of each adds to a duration.
 //!
 //! A `match` on byte strings compiles to one decision tree, and one on `str` to a comparison with
-//! each word in turn. It is split in three, by the sizes of the units, because a single one has too
-//! many branches for the prover.
+//! each word in turn. The `match` over all words is split in three, by the sizes of the units,
+//! because a single one has too many branches for the prover.
 
 ghost use Rattle.std.specs.Prelude.{◌≡◌, chars, option_map};
 ghost use Rattle.humantime.specs.Values.{seconds_per_day};

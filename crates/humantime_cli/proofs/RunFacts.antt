@@ -162,7 +162,7 @@ fault_cut _ _ _ _ _ one ends three =
     front_explained (ends_with _ (Some (Err (codes "invalid character at 1")))
     fault_explained one ends) three
 
--- A timestamp in the strict form was printed.
+-- A timestamp in the strict format was printed.
 pub strict_printed : Ran (codes "strict" ∷ codes "2018-02-14T00:28:07Z" ∷ [])
     (Printed (codes "2018-02-14T00:28:07Z\n"))
 strict_printed _ _ _ _ _ one ends =

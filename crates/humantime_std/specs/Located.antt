@@ -25,8 +25,8 @@ char_end text at =
 
 -- ---- Timestamps
 
--- The first 19 bytes: `0` is any digit, a space is a `T` or, in the weak form, a space, and another
--- byte is that byte.
+-- The first 19 bytes: `0` is any digit, a space is a `T` or, in the weak format, a space, and
+-- another byte is that byte.
 abbrev pub layout : List ℕ
 layout = codes "0000-00-00 00:00:00"
 
@@ -85,11 +85,11 @@ abbrev pub located : Bool → List ℕ → TimestampError → Located TimestampE
 located strict b e =
     record { error = e; start = (error_range strict b e).0; end = (error_range strict b e).1 }
 
--- Returns the error of a text in the weak form, if any, with its bytes.
+-- Returns the error of a text in the weak format, if any, with its bytes.
 abbrev pub weak_error : List ℕ → Option (Located TimestampError)
 weak_error b = option_map (located false b) (result_err (weak_answer b))
 
--- Returns the error of a text in the strict form, if any, with its bytes.
+-- Returns the error of a text in the strict format, if any, with its bytes.
 abbrev pub strict_error : List ℕ → Option (Located TimestampError)
 strict_error b = option_map (located true b) (result_err (strict_answer b))
 

@@ -14,7 +14,7 @@ fn place(error: Option<Located<TimestampError>>) -> Place {
     error.map(|error| (error.error, error.start, error.end))
 }
 
-/// Texts with their places in the weak form and in the strict one.
+/// Texts with their places in the weak format and in the strict one.
 #[test]
 fn a_timestamp_has_its_place(rt: HostRuntime) {
     let format = |start: usize, end: usize| -> Place { Some((FORMAT, start, end)) };

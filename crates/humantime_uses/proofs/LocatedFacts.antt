@@ -20,7 +20,7 @@ use Rattle.humantime_std.specs.Located.{IsFaultRange, char_end, error_range, fit
 -- ---- what can stand at a place
 
 -- A digit fits `0`, and of other bytes only themselves fit, but a `T` fits a space, which is no
--- separator in the strict form.
+-- separator in the strict format.
 any_place : (strict : Bool) (b : ℕ) → (fits strict (byte "0") b ≡ is_ascii_digit b)
     × (fits strict (byte "-") b ≡ (b == byte "-")) × (fits strict (byte ":") b ≡ (b == byte ":"))
     × (fits false (byte " ") b ≡ ((b == byte "T") || (b == byte " ")))

@@ -38,7 +38,7 @@ any_date d = refl
 -- ---- errors
 
 -- The first of these checks that fails gives the error, after that for a `T` and a zone in the
--- strict form.
+-- strict format.
 any_checks : (b : List ℕ) → let at = slice_index b in
     (weak_checks b
     ≡ record { passes = nat_le 19 (length b); error = InvalidFormat }
@@ -97,21 +97,21 @@ first_error : (e : TimestampError) (others : List Check)
     × (first_failed (record { passes = false; error = e } ∷ others) ≡ Some e)
 first_error e others = (refl, refl)
 
--- ---- forms
+-- ---- formats
 
--- Nothing else is asked of the text of any parts in the weak form, nor in the strict one.
-weak_form : (text : List ℕ) (f : Fields)
+-- Nothing else is asked of the text of any fields in the weak format, nor in the strict one.
+weak_format : (text : List ℕ) (f : Fields)
     → IsWeak text f
     ↔ ((text ≡ fields_text f) × IsDate f.date × (f.hour ≤ 23) × (f.minute ≤ 59) × (f.second ≤ 60)
     × IsTrue (all_ascii_digits (fraction_digits f.fraction)))
-weak_form text f = (
+weak_format text f = (
   λ w. (w.text, w.date, w.hour, w.minute, w.second, w.fraction),
   λ h. record { text = h.0; date = h.1; hour = h.2; minute = h.3; second = h.4; fraction = h.5 },
 )
 
-strict_form : (text : List ℕ) (f : Fields) → IsStrict text f
+strict_format : (text : List ℕ) (f : Fields) → IsStrict text f
     ↔ (IsWeak text f × (f.separator ≡ Letter_T) × (f.zone ≢ NoZone))
-strict_form text f =
+strict_format text f =
     (λ s. (s.weak, s.separator, s.zone), λ h. record { weak = h.0; separator = h.1; zone = h.2 })
 
 abbrev two : ℕ → List ℕ

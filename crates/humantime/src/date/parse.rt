@@ -85,7 +85,10 @@ struct DateTime {
 /// assert_eq!(rt; parse_rfc3339_weak("2018-01-01 12:53:00"), Ok(time));
 /// assert_eq!(rt; parse_rfc3339_weak("2018-01-01T12:53:00.+00:00"), Ok(time));
 /// assert_eq!(rt; parse_rfc3339_weak("1970-02-30T00:00:00Z"), Err(TimestampError::OutOfRange));
-/// assert_eq!(rt; parse_rfc3339_weak("1970-01-01 00:00:00.5+02:00"), Err(TimestampError::InvalidDigit));
+/// assert_eq!(
+///     rt; parse_rfc3339_weak("1970-01-01 00:00:00.5+02:00"),
+///     Err(TimestampError::InvalidDigit)
+/// );
 /// ```
 #[inline(always)]
 #[tactic(auto, using(crate::proofs::TimestampOutcomes::weak_told))]

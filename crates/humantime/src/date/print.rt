@@ -67,7 +67,12 @@ impl Model for Rfc3339Timestamp {
     ghost view = { λ x. record {
       moment = x.time;
       places = places x.precision;
-      few = elim x.precision as (λ p. places p ≤ 9) [ Seconds ↦ lit≤ tt | Millis ↦ lit≤ tt | Micros ↦ lit≤ tt | Nanos ↦ lit≤ tt ];
+      few = elim x.precision as (λ p. places p ≤ 9) [
+        | Seconds ↦ lit≤ tt
+        | Millis ↦ lit≤ tt
+        | Micros ↦ lit≤ tt
+        | Nanos ↦ lit≤ tt
+      ];
     } };
 
     ghost inverse = { λ x. record { time = x.moment; precision = precision_of x.places } };

@@ -212,12 +212,12 @@ fn is_bare_point(fraction: Fraction, rest: &str) -> bool
     fraction.len == 0 && (rest.is_empty() || !read_word(rest).0.is_empty())
 }
 
-/// Returns the string after the word of a span, without the whitespace character at its start, if
-/// any. Returns `None` if the word may not end there, because a character other than whitespace or
-/// a digit follows it.
+/// Takes the string after the word of a span, and returns it without the whitespace character at
+/// its start, if any. Returns `None` if it begins with a character other than whitespace or a
+/// digit, before which a word may not end.
 ///
-/// It skips one character, since there is usually only one before the next digit. `skip_whitespace`
-/// skips the others.
+/// Only one character is skipped, since there is usually only one before the next digit.
+/// `skip_whitespace` skips the others.
 #[inline(always)]
 #[tactic(auto, using(crate::proofs::Offsets::span_ends))]
 fn skip_span_end(text: &str) -> Option<&str>
