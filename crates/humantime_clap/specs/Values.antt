@@ -14,13 +14,14 @@ use Rattle.clap.specs.declared.parser.matches.ArgMatches.{ArgMatches}
 abbrev pub string_of : ArgMatches → List ℕ → Option (List ℕ)
 string_of matches id = first_value (found_of matches) id
 
--- The calls of a parser F, which returns a T, or Why it rejects a string.
+-- The calls of a parser of the type F, which returns a T, or rejects a string for a reason of the
+-- type Why.
 abbrev pub Calls : Type 0 → Type 0 → Type 0 → Type 1
 Calls F T Why = Once F (Bor (List ℕ) × Unit {0}) (Result T Why)
 
--- The parser rejects the string, or an allocation fails.
-abbrev pub IsRejection : {F T Why : Type 0} → Calls F T Why → F → List ℕ → Error → Type 0
-IsRejection {F} {T} {Why} calls parse text error = (kind_of error ≡ OutOfMemory)
+-- The error says that the parser rejects the string, or that an allocation fails.
+abbrev pub IsParsingError : {F T Why : Type 0} → Calls F T Why → F → List ℕ → Error → Type 0
+IsParsingError {F} {T} {Why} calls parse text error = (kind_of error ≡ OutOfMemory)
     ⊎ ((kind_of error ≡ ValueValidation)
     × ((why : Why) × FnOnceReturnsAt calls parse text (Err why)))
 
@@ -30,7 +31,7 @@ abbrev pub IsValue : {F T Why : Type 0} → Calls F T Why → F → Option (List
 IsValue calls parse None result = IsErrAnd result (λ error.
     (kind_of error ≡ OutOfMemory) ⊎ (kind_of error ≡ MissingRequiredArgument))
 IsValue calls parse (Some text) result = MatchResult result
-    (λ value. FnOnceReturnsAt calls parse text (Ok value)) (IsRejection calls parse text)
+    (λ value. FnOnceReturnsAt calls parse text (Ok value)) (IsParsingError calls parse text)
 
 -- What `optional_value_of` returns: `Ok(None)` if there is no string, or else the same in a `Some`.
 abbrev pub IsOptionalValue : {F T Why : Type 0} → Calls F T Why → F → Option (List ℕ)
@@ -38,7 +39,7 @@ abbrev pub IsOptionalValue : {F T Why : Type 0} → Calls F T Why → F → Opti
 IsOptionalValue calls parse None result = result ≡ Ok None
 IsOptionalValue calls parse (Some text) result = MatchResult result
     (λ found. IsSomeAnd found (λ value. FnOnceReturnsAt calls parse text (Ok value)))
-    (IsRejection calls parse text)
+    (IsParsingError calls parse text)
 
 -- An `Ok` leaves the command as it was, and an `Err` leaves it as it was, built or broken.
 abbrev pub LeavesCommand : {T : Type 0} → Command → Command → Result T Error → Type 0

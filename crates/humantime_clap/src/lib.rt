@@ -9,8 +9,8 @@ use humantime_std::Located;
 use std::alloc::Global;
 use std::fmt::Display;
 
-/// Parses the first value of an option that is required or has a default. Its id is also its long
-/// name.
+/// Parses the first value of an option that is required or has a default. The id of the option has
+/// to be its long name.
 ///
 /// # Errors
 ///
@@ -45,7 +45,8 @@ pub fn value_of<'a, T, E: Display + Drop, F: FnOnce(&'a str) -> Result<T, Locate
     Err(command.error(ErrorKind::MissingRequiredArgument, &text)?)
 }
 
-/// Parses the value of an option, or returns `None` if it has none. Its id is also its long name.
+/// Parses the first value of an option, or returns `None` if it has none. The id of the option has
+/// to be its long name.
 ///
 /// # Errors
 ///

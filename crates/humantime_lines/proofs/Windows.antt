@@ -12,20 +12,19 @@ use Rattle.std.proofs.lemmas.List.Sums.{sum_by-append, sum_by-cons}
 use Rattle.std.proofs.lemmas.Str.{IsCharBoundary-at_seam, IsUtf8-append, IsUtf8-encode}
 use Rattle.std.proofs.lemmas.Str.{chars-append, chars-nil, chars_past_char, encode_ascii}
 use Rattle.std.specs.Char.{IsScalar}
-use Rattle.humantime_lines.specs.Escapes.{room}
-use Rattle.humantime_lines.specs.Escapes.{shown as shown_as}
-use Rattle.humantime_lines.specs.MarkedLines.{cut_to, dots, end_within, rooms, start_within}
+use Rattle.humantime_lines.specs.Escapes.{escaped_char, escaped_chars, room}
+use Rattle.humantime_lines.specs.MarkedLines.{cut_to, dots, end_within, line_room, start_within}
 use Rattle.humantime_lines.specs.MarkedLines.{window_of}
-use Rattle.humantime_lines.specs.MarkedLines.{IsWritten, written}
+use Rattle.humantime_lines.specs.MarkedLines.{IsWritten}
 use Rattle.unicode_width.specs.Width.{char_width}
 
-pub rooms-cons : (c : ℕ) (line : List ℕ) → rooms (c ∷ line) ≡ room c + rooms line
-rooms-cons c line = sum_by-cons room c line
+pub line_room-cons : (c : ℕ) (line : List ℕ) → line_room (c ∷ line) ≡ room c + line_room line
+line_room-cons c line = sum_by-cons room c line
 
-pub rooms-nil : rooms [] ≡ 0
-rooms-nil = refl
+pub line_room-nil : line_room [] ≡ 0
+line_room-nil = refl
 
-pub ruleset room_laws = (rooms-cons, rooms-nil, chars-nil)
+pub ruleset line_room_laws = (line_room-cons, line_room-nil, chars-nil)
 
 -- A character that fits is part of the longest start.
 pub start_within-cons : (n c : ℕ) (line : List ℕ) → room c ≤ n
@@ -37,13 +36,13 @@ pub start_within-stops : (n c : ℕ) (line : List ℕ) → n < room c → start_
 start_within-stops n c line wide = grind (arith, nat_tests)
 
 -- The longest end of a line that fits is the line.
-pub end_within-whole : (n : ℕ) (line : List ℕ) → rooms line ≤ n → end_within n line ≡ line
+pub end_within-whole : (n : ℕ) (line : List ℕ) → line_room line ≤ n → end_within n line ≡ line
 end_within-whole n [] fits = refl
 end_within-whole n (c ∷ line) fits = grind (arith, nat_tests)
 
 -- What fits, after a character that does not, is the longest end.
-pub end_within-stops : (n : ℕ) (before : List ℕ) (c : ℕ) (end : List ℕ) → rooms end ≤ n
-    → n < room c + rooms end → end_within n (before ++ (c ∷ end)) ≡ end
+pub end_within-stops : (n : ℕ) (before : List ℕ) (c : ℕ) (end : List ℕ) → line_room end ≤ n
+    → n < room c + line_room end → end_within n (before ++ (c ∷ end)) ≡ end
 end_within-stops n [] c end fits wide =
     grind (arith, nat_tests, sum_by-cons room c end, end_within-whole n end)
 end_within-stops n (d ∷ before) c end fits wide =
@@ -57,21 +56,22 @@ end_within-stops n (d ∷ before) c end fits wide =
     )
 
 -- It fits.
-pub rooms-end_within : (n : ℕ) (line : List ℕ) → rooms (end_within n line) ≤ n
-rooms-end_within n [] = omega arith
-rooms-end_within n (c ∷ line) = grind (arith, nat_tests, rooms-end_within n line)
+pub line_room-end_within : (n : ℕ) (line : List ℕ) → line_room (end_within n line) ≤ n
+line_room-end_within n [] = omega arith
+line_room-end_within n (c ∷ line) = grind (arith, nat_tests, line_room-end_within n line)
 
 -- A dot has one column.
-pub rooms-dots : (line : List ℕ) → rooms (dots ++ line) ≡ 3 + rooms line
+pub line_room-dots : (line : List ℕ) → line_room (dots ++ line) ≡ 3 + line_room line
 unfolding char_width
-rooms-dots line = rw (rooms-cons, rooms-cons, rooms-cons) (omega arith)
+line_room-dots line = rw (line_room-cons, line_room-cons, line_room-cons) (omega arith)
 
 -- A line that is cut fits.
-pub rooms-cut_to : (n : ℕ) (line : List ℕ) → 3 ≤ n → rooms (cut_to n line) ≤ n
-rooms-cut_to n line room_for_dots =
-    grind (arith, nat_tests, rooms-dots (end_within (n - 3) line), rooms-end_within (n - 3) line)
+pub line_room-cut_to : (n : ℕ) (line : List ℕ) → 3 ≤ n → line_room (cut_to n line) ≤ n
+line_room-cut_to n line room_for_dots =
+    grind
+    (arith, nat_tests, line_room-dots (end_within (n - 3) line), line_room-end_within (n - 3) line)
 
-pub ruleset window_laws = (rooms-dots, rooms-cut_to, nat_tests)
+pub ruleset window_laws = (line_room-dots, line_room-cut_to, nat_tests)
 
 -- The characters of a text and one more.
 pub chars-push : (text : List ℕ) (c : ℕ) → IsUtf8 text → IsScalar c
@@ -128,7 +128,7 @@ pub record Ended (text rest : List ℕ) (columns left : ℕ) : Type 0 where
   pub back : List ℕ
   pub whole : text ≡ rest ++ back
   pub utf8 : IsUtf8 back
-  pub room : rooms (chars back) + left ≡ columns
+  pub room : line_room (chars back) + left ≡ columns
 
 pub end_read : {text rest before : List ℕ} {columns left : ℕ} (c : ℕ) → Ended text rest columns left
     → rest ≡ before ++ encode_utf8 c → IsScalar c → room c ≤ left
@@ -140,7 +140,7 @@ end_read {text} {rest} {before} {columns} {left} c now bytes scalar fits = recor
   room =
       let utf8 = IsUtf8-append (encode_utf8 c) now.back (IsUtf8-encode c scalar) now.utf8 in
       let first = chars_past_char (encode_utf8 c ++ now.back) now.back c utf8 refl in
-      omega (arith, now.room, ap rooms first ∙ rooms-cons c (chars now.back));
+      omega (arith, now.room, ap line_room first ∙ line_room-cons c (chars now.back));
 }
 
 -- Characters have been read whole from the end, or the next one does not fit.
@@ -148,7 +148,7 @@ abbrev pub Stopped : List ℕ → ℕ → Type 0
 Stopped rest left =
     (rest ≡ []) ⊎ ((before : List ℕ) × (c : ℕ) × (rest ≡ before ++ c ∷ []) × (left < room c))
 
-end_kept : (rest back : List ℕ) (left columns : ℕ) → rooms back + left ≡ columns
+end_kept : (rest back : List ℕ) (left columns : ℕ) → line_room back + left ≡ columns
     → Stopped rest left → end_within columns (rest ++ back) ≡ back
 end_kept rest back left columns read (inl none) =
     ap (λ r. end_within columns (r ++ back)) none ∙ end_within-whole columns back (omega arith)
@@ -171,30 +171,31 @@ end_stops {text} {rest} {columns} {left} now utf8 stopped =
 
 -- What is written of a line whose rest fits.
 pub whole_written : (before part after front : List ℕ) (space left : ℕ)
-    → space ≡ 78 - max (min (rooms part + rooms after) 39) 1
-    → left ≡ 78 - rooms (cut_to space before) → rooms part + rooms after ≤ left
-    → front ≡ written (cut_to space before)
-    → IsWritten (window_of before part after) front (written part) (written after)
+    → space ≡ 78 - max (min (line_room part + line_room after) 39) 1
+    → left ≡ 78 - line_room (cut_to space before) → line_room part + line_room after ≤ left
+    → front ≡ escaped_chars (cut_to space before)
+    → IsWritten (window_of before part after) front (escaped_chars part) (escaped_chars after)
 unfolding window_of
 whole_written before part after front space left space_is left_is fits shown =
-    rw (← space_is, ← left_is, le-leb (rooms part + rooms after) left fits)
-    (record { first = shown; second = refl; third = refl })
+    rw (← space_is, ← left_is, le-leb (line_room part + line_room after) left fits)
+    (record { before = shown; part = refl; after = refl })
 
-pub written-dots : (line : List ℕ) → written (line ++ dots) ≡ written line ++ dots
-written-dots line =
-    let three : written dots ≡ dots = rw (encode_ascii 46 (omega arith)) refl in
-    flat_map-append shown_as line dots ∙ ap (λ end. written line ++ end) three
+pub escaped_chars-dots : (line : List ℕ) → escaped_chars (line ++ dots) ≡ escaped_chars line ++ dots
+escaped_chars-dots line =
+    let three : escaped_chars dots ≡ dots = rw (encode_ascii 46 (omega arith)) refl in
+    flat_map-append escaped_char line dots ∙ ap (λ end. escaped_chars line ++ end) three
 
 -- What is written of a line whose rest is cut.
 pub cut_written : (before part after front : List ℕ) (space left n : ℕ) (kept kept_after : List ℕ)
-    → space ≡ 78 - max (min (rooms part + rooms after) 39) 1
-    → left ≡ 78 - rooms (cut_to space before) → left < rooms part + rooms after
-    → front ≡ written (cut_to space before) → kept ≡ start_within (left - 3) part
-    → n ≡ left - 3 - rooms part → kept_after ≡ start_within n after
-    → IsWritten (window_of before part after) front (written kept) (written kept_after ++ dots)
+    → space ≡ 78 - max (min (line_room part + line_room after) 39) 1
+    → left ≡ 78 - line_room (cut_to space before) → left < line_room part + line_room after
+    → front ≡ escaped_chars (cut_to space before) → kept ≡ start_within (left - 3) part
+    → n ≡ left - 3 - line_room part → kept_after ≡ start_within n after
+    → IsWritten (window_of before part after) front (escaped_chars kept)
+    (escaped_chars kept_after ++ dots)
 unfolding window_of
 cut_written before part after front space left n kept kept_after space_is left_is wide shown
     part_is n_is after_is =
-    let cut = lt-leb (rooms part + rooms after) left wide in
+    let cut = lt-leb (line_room part + line_room after) left wide in
     rw (← space_is, ← left_is, cut, ← n_is, ← part_is, ← after_is)
-    (record { first = shown; second = refl; third = sym (written-dots kept_after) })
+    (record { before = shown; part = refl; after = sym (escaped_chars-dots kept_after) })

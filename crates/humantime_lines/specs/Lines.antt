@@ -1,5 +1,5 @@
 -- The line of an offset in a text, which is its list of bytes.
-use Rattle.std.specs.Prelude.{◌==◌, ◌+◌, ◌≤◌, ℕ, List, [], Bool, Option, None, Some}
+use Rattle.std.specs.Prelude.{◌==◌, ◌+◌, ◌-◌, ◌≤◌, ℕ, List, [], Bool, Option, None, Some}
 use Rattle.std.specs.Prelude.{count_by, drop, if◌then◌else◌, nat_lt, slice_get, take, unwrap_or}
 use Rattle.std.specs.List.{after_last}
 use Rattle.std.specs.Str.{IsCharBoundary, byte}
@@ -9,7 +9,7 @@ use Rattle.std.specs.Str.Lines.{lines}
 abbrev pub is_line_feed : ℕ → Bool
 is_line_feed b = b == byte "\n"
 
--- Tests whether a text has several lines.
+-- Tests whether a text has a line feed.
 abbrev pub has_line_feed : List ℕ → Bool
 has_line_feed text = nat_lt 0 (count_by is_line_feed text)
 
@@ -22,13 +22,21 @@ abbrev pub line_number : List ℕ → ℕ → Option ℕ
 line_number text at =
     if has_line_feed text then Some (count_by is_line_feed (take at text) + 1) else None
 
--- Returns what this line has before the offset.
+-- Returns the line of an offset up to the offset.
 abbrev pub line_before : List ℕ → ℕ → List ℕ
 line_before text at = after_last is_line_feed (take at text)
 
--- Returns what it has from the offset on.
+-- Returns the line of an offset from the offset on.
 abbrev pub line_after : List ℕ → ℕ → List ℕ
 line_after text at = first_line (drop at text)
+
+-- Returns the part that is in a range of the line in which the range starts.
+abbrev pub line_part : List ℕ → ℕ → ℕ → List ℕ
+line_part text start end = take (end - start) (line_after text start)
+
+-- Returns what this line has after that part.
+abbrev pub line_rest : List ℕ → ℕ → ℕ → List ℕ
+line_rest text start end = drop (end - start) (line_after text start)
 
 -- The offsets of a range are in order, and `char` boundaries of the text.
 abbrev pub IsRangeIn : List ℕ → ℕ → ℕ → Type 0

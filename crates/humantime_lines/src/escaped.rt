@@ -2,7 +2,8 @@
 
 ghost use Rattle.std.specs.Prelude.{◌≡◌, ◌≤◌, Some};
 ghost use Rattle.std.specs.Fmt.{WritesOnOk};
-ghost use Rattle.humantime_lines.specs.Escapes.{escaped, is_directive, is_hidden, room, shown};
+ghost use Rattle.humantime_lines.specs.Escapes.{escaped, escaped_char, is_escaped, room};
+ghost use Rattle.humantime_lines.specs.Escapes.{is_bidi_or_separator};
 
 use std::fmt;
 use unicode_width::UnicodeWidthChar;
@@ -30,29 +31,29 @@ impl fmt::Display for Escaped<'_> {
 
     fn fmt<W: fmt::Write>(&self, f: &mut fmt::Formatter<W>) -> fmt::Result {
         for c in self.0.chars() {
-            write_shown(f, c)?;
+            write_escaped_char(f, c)?;
         }
         Ok(())
     }
 }
 
 /// Writes a character or its escape.
-fn write_shown<W: fmt::Write>(f: &mut fmt::Formatter<W>, c: char) -> fmt::Result
-    ensures { WritesOnOk W.write_str_gives f.old result (shown c) f.new }
+fn write_escaped_char<W: fmt::Write>(f: &mut fmt::Formatter<W>, c: char) -> fmt::Result
+    ensures { WritesOnOk W.write_str_gives f.old result (escaped_char c) f.new }
 {
-    if is_hidden(c) {
+    if is_escaped(c) {
         write!(f, "\\u{{{:x}}}", c as u32)
     } else {
         f.write_char(c)
     }
 }
 
-/// Returns the most columns that a character takes where it is written.
+/// Returns the room that a character needs: the most columns that it takes where it is written.
 pub(crate) fn room(c: char) -> usize
     ensures columns { result ≡ room c }
     ensures most { result ≤ 8 }
 {
-    if is_hidden(c) || c == '\t' {
+    if is_escaped(c) || c == '\t' {
         8
     } else {
         c.width().unwrap_or(1).max(1)
@@ -60,15 +61,15 @@ pub(crate) fn room(c: char) -> usize
 }
 
 /// Returns `true` if a character is written as an escape.
-fn is_hidden(c: char) -> bool
-    ensures { result ≡ is_hidden c }
+fn is_escaped(c: char) -> bool
+    ensures { result ≡ is_escaped c }
 {
-    c.is_control() && c != '\t' || is_directive(c)
+    c.is_control() && c != '\t' || is_bidi_or_separator(c)
 }
 
 /// Returns `true` if a character controls the direction of text, or ends a line or a paragraph.
-fn is_directive(c: char) -> bool
-    ensures { result ≡ is_directive c }
+fn is_bidi_or_separator(c: char) -> bool
+    ensures { result ≡ is_bidi_or_separator c }
 {
     matches!(
         c,

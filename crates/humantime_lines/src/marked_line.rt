@@ -1,11 +1,11 @@
 //! A line with a part that is wrong.
 
-ghost use Rattle.std.specs.Prelude.{◌≡◌, ◌-◌, ◌++◌, IfOk, Some, codes, drop, length, take};
+ghost use Rattle.std.specs.Prelude.{◌≡◌, ◌++◌, IfOk, Some, codes, length};
 ghost use Rattle.std.specs.Fmt.{WritesOnOk};
 ghost use Rattle.std.specs.Fmt.InlineText.{inline_text};
 ghost use Rattle.std.specs.Str.{IsCharBoundary};
 ghost use Rattle.humantime_lines.specs.Escapes.{escaped};
-ghost use Rattle.humantime_lines.specs.Lines.{IsRangeIn, line_after, line_before};
+ghost use Rattle.humantime_lines.specs.Lines.{IsRangeIn, line_before, line_part, line_rest};
 ghost use Rattle.humantime_lines.specs.MarkedLines.{marked_lines};
 
 use crate::caret_line::write_carets;
@@ -21,9 +21,11 @@ const CAPACITY: usize = 4 * WIDTH;
 /// A line with a part that is wrong, to print with a caret line.
 ///
 /// `Display` writes the line, a line feed, and below the part a `^` for each column, or one where
-/// something is missing. Of a line of over 78 columns, counting eight for a tab or an escape and at
-/// least one for any other character, it writes what is around the start of the part, with dots
-/// where the line is cut. Characters that control a terminal are written as [`Escaped`] does.
+/// something is missing. Characters that control a terminal are written as by [`Escaped`].
+///
+/// A line that needs more than 78 columns is cut to what is around the start of the part, with dots
+/// where it is cut. A tab or an escape counts as eight columns here, and any other character as at
+/// least one.
 ///
 /// The columns are those of a terminal as the crate `unicode_width` counts them: two for a wide
 /// character such as `中`, none for a combining one. A terminal can show an emoji with U+FE0F, a
@@ -73,11 +75,9 @@ impl<'a> MarkedLine<'a> {
         ensures before { IsCharBoundary text.now range.start
             → result.before.now ≡ line_before text.now range.start }
         ensures part { IsRangeIn text.now range.start range.end
-            → let len = range.end - range.start in
-            result.part.now ≡ take len (line_after text.now range.start) }
+            → result.part.now ≡ line_part text.now range.start range.end }
         ensures after { IsRangeIn text.now range.start range.end
-            → let len = range.end - range.start in
-            result.after.now ≡ drop len (line_after text.now range.start) }
+            → result.after.now ≡ line_rest text.now range.start range.end }
         ensures end { ¬ (IsCharBoundary text.now range.start)
             → result.before.now ≡ line_before text.now (length text.now) }
     {
@@ -91,14 +91,14 @@ impl<'a> MarkedLine<'a> {
         }
     }
 
-    /// Writes the line and its caret line, each after the same spaces.
-    pub(crate) fn write_after<W: fmt::Write>(
+    /// Writes the line and its caret line, each after the same indent.
+    pub(crate) fn write_indented<W: fmt::Write>(
         &self,
         f: &mut fmt::Formatter<W>,
-        spaces: &str,
+        indent: &str,
     ) -> fmt::Result
         ensures { let line = self.now in
-            let lines = marked_lines spaces.now line.before.now line.part.now line.after.now in
+            let lines = marked_lines indent.now line.before.now line.part.now line.after.now in
             WritesOnOk W.write_str_gives f.old result lines f.new }
     {
         let window = window_of(self.before, self.part, self.after);
@@ -106,7 +106,7 @@ impl<'a> MarkedLine<'a> {
         let wrong = escaped_text("", window.part)?;
         let (front, wrong) = (front.as_str(), wrong.as_str());
         let (after, end) = (Escaped(window.after), window.end);
-        write!(f, "{spaces}{front}{wrong}{after}{end}\n{spaces}")?;
+        write!(f, "{indent}{front}{wrong}{after}{end}\n{indent}")?;
         write_carets(f, front, wrong)
     }
 }
@@ -115,7 +115,7 @@ impl Display for MarkedLine<'_> {
     ghost output = { λ l. Some (marked_lines (codes "") l.before.now l.part.now l.after.now) };
 
     fn fmt<W: fmt::Write>(&self, f: &mut fmt::Formatter<W>) -> fmt::Result {
-        self.write_after(f, "")
+        self.write_indented(f, "")
     }
 }
 

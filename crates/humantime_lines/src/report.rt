@@ -1,8 +1,9 @@
 //! An error with its line.
 
-ghost use Rattle.std.specs.Prelude.{◌≡◌, ◌-◌, drop, option_map, take};
+ghost use Rattle.std.specs.Prelude.{◌≡◌, option_map};
 ghost use Rattle.std.specs.Str.{IsCharBoundary};
-ghost use Rattle.humantime_lines.specs.Lines.{IsRangeIn, line_after, line_before, line_number};
+ghost use Rattle.humantime_lines.specs.Lines.{IsRangeIn, line_before, line_number, line_part};
+ghost use Rattle.humantime_lines.specs.Lines.{line_rest};
 ghost use Rattle.humantime_lines.specs.MarkedLines.{report_text};
 
 use crate::line;
@@ -10,8 +11,7 @@ use crate::marked_line::MarkedLine;
 use std::fmt::{self, Display};
 use std::ops::Range;
 
-/// An error with the line of the string in which it is, to print with what is wrong and a caret
-/// line.
+/// An error with the line of the string in which it is, to print with carets below what is wrong.
 ///
 /// `Display` writes the message, the line, and a caret line under it, both after two spaces, as
 /// [`MarkedLine`] does. There is no line feed at the end. If the string has a line feed, the
@@ -41,7 +41,7 @@ pub struct Report<'a, E> {
 impl<'a, E> Report<'a, E> {
     /// Returns an error with the line of the string in which its range of bytes starts.
     ///
-    /// The range is read as [`MarkedLine::new`] does.
+    /// The range is read as by [`MarkedLine::new`].
     ///
     /// # Examples
     ///
@@ -60,11 +60,9 @@ impl<'a, E> Report<'a, E> {
         ensures before { IsCharBoundary text.now range.start
             → result.line.before.now ≡ line_before text.now range.start }
         ensures part { IsRangeIn text.now range.start range.end
-            → let len = range.end - range.start in
-            result.line.part.now ≡ take len (line_after text.now range.start) }
+            → result.line.part.now ≡ line_part text.now range.start range.end }
         ensures after { IsRangeIn text.now range.start range.end
-            → let len = range.end - range.start in
-            result.line.after.now ≡ drop len (line_after text.now range.start) }
+            → result.line.after.now ≡ line_rest text.now range.start range.end }
     {
         Report {
             error,
@@ -85,6 +83,6 @@ impl<E: Display> Display for Report<'_, E> {
             write!(f, "line {number}: ")?;
         }
         write!(f, "{}\n", self.error)?;
-        self.line.write_after(f, "  ")
+        self.line.write_indented(f, "  ")
     }
 }

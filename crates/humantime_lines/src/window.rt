@@ -2,10 +2,9 @@
 
 ghost use Rattle.std.specs.Prelude.{◌≡◌, ◌+◌, ◌-◌, ◌<◌, ◌≤◌, [], ◌∷◌, ◌++◌, chars, encode_utf8};
 ghost use Rattle.std.specs.Prelude.{length, min, IfNone, IfSome};
-ghost use Rattle.humantime_lines.specs.Escapes.{escaped};
+ghost use Rattle.humantime_lines.specs.Escapes.{escaped, escaped_chars};
 ghost use Rattle.humantime_lines.specs.MarkedLines as spec;
-ghost use Rattle.humantime_lines.specs.MarkedLines.{IsWritten, end_within, rooms, start_within};
-ghost use Rattle.humantime_lines.specs.MarkedLines.{written};
+ghost use Rattle.humantime_lines.specs.MarkedLines.{IsWritten, end_within, line_room, start_within};
 
 use crate::escaped::room;
 
@@ -39,10 +38,10 @@ pub(crate) fn window_of<'a>(before: &'a str, part: &'a str, after: &'a str) -> W
         (result.start.now ++ escaped result.before.now) (escaped result.part.now)
         (escaped result.after.now ++ result.end.now) }
 {
-    let rest = columns_of_two(part, after, HALF);
+    let rest = room_of_two(part, after, HALF);
     let (start, before) = cut_to(before, WIDTH - rest.max(1));
-    let left = WIDTH - (start.len() + columns(before, WIDTH));
-    if columns_of_two(part, after, left + 1) <= left {
+    let left = WIDTH - (start.len() + line_room(before, WIDTH));
+    if room_of_two(part, after, left + 1) <= left {
         return Window {
             start,
             before,
@@ -56,7 +55,7 @@ pub(crate) fn window_of<'a>(before: &'a str, part: &'a str, after: &'a str) -> W
         start,
         before,
         part: start_within(part, left),
-        after: start_within(after, left - columns(part, left)),
+        after: start_within(after, left - line_room(part, left)),
         end: DOTS,
     }
 }
@@ -67,32 +66,32 @@ fn cut_to(text: &str, most: usize) -> (&'static str, &str)
     requires low { 3 ≤ most }
     requires high { most ≤ 78 }
     ensures shown { let seen = spec.cut_to most (chars text.now) in
-        result.0.now ++ escaped result.1.now ≡ written seen }
+        result.0.now ++ escaped result.1.now ≡ escaped_chars seen }
     ensures columns { let seen = spec.cut_to most (chars text.now) in
-        length result.0.now + rooms (chars result.1.now) ≡ rooms seen }
-    ensures within { rooms (spec.cut_to most (chars text.now)) ≤ most }
+        length result.0.now + line_room (chars result.1.now) ≡ line_room seen }
+    ensures within { line_room (spec.cut_to most (chars text.now)) ≤ most }
 {
-    if columns(text, most + 1) <= most {
+    if line_room(text, most + 1) <= most {
         ("", text)
     } else {
         (DOTS, end_within(text, most - DOTS.len()))
     }
 }
 
-/// Returns the columns that two strings take, but at most a number.
-fn columns_of_two(first: &str, second: &str, most: usize) -> usize
+/// Returns the room that two strings need, but at most a number of columns.
+fn room_of_two(first: &str, second: &str, most: usize) -> usize
     requires { most ≤ 80 }
-    ensures { result ≡ min (rooms (chars first.now) + rooms (chars second.now)) most }
+    ensures { result ≡ min (line_room (chars first.now) + line_room (chars second.now)) most }
 {
-    let columns_of_first = columns(first, most);
-    columns_of_first + columns(second, most - columns_of_first)
+    let room_of_first = line_room(first, most);
+    room_of_first + line_room(second, most - room_of_first)
 }
 
-/// Returns the columns that a string takes, but at most a number.
-#[tactic(auto, using(crate::proofs::Windows::room_laws))]
-fn columns(text: &str, most: usize) -> usize
+/// Returns the room that a string needs, but at most a number of columns, at which it stops.
+#[tactic(auto, using(crate::proofs::Windows::line_room_laws))]
+fn line_room(text: &str, most: usize) -> usize
     requires { most ≤ 80 }
-    ensures { result ≡ min (rooms (chars text.now)) most }
+    ensures { result ≡ min (line_room (chars text.now)) most }
 {
     let mut columns = 0;
     let mut rest = text;
@@ -105,7 +104,7 @@ fn columns(text: &str, most: usize) -> usize
     columns
 }
 
-/// Returns the longest start of a string that takes at most a number of columns.
+/// Returns the longest start of a string that has room in a number of columns.
 fn start_within(text: &str, columns: usize) -> &str
     ensures { chars result.now ≡ start_within columns (chars text.now) }
 {
@@ -120,7 +119,7 @@ fn start_within(text: &str, columns: usize) -> &str
     start
 }
 
-/// Returns the longest end of a string that takes at most a number of columns.
+/// Returns the longest end of a string that has room in a number of columns.
 fn end_within(text: &str, columns: usize) -> &str
     ensures { chars result.now ≡ end_within columns (chars text.now) }
 {

@@ -17,7 +17,7 @@ const HIDDEN: [(u32, u32); 7] = [
     (0x2066, 0x2069),
 ];
 
-fn is_hidden(c: char) -> bool {
+fn is_escaped(c: char) -> bool {
     HIDDEN
         .iter()
         .any(|(first, last)| *first <= c as u32 && c as u32 <= *last)
@@ -27,7 +27,7 @@ fn is_hidden(c: char) -> bool {
 fn escaped(rt: &impl AllocGlobal, text: &str) -> Result<String, Fail> {
     let mut escaped = String::new(rt.alloc());
     for c in text.chars() {
-        match is_hidden(c) {
+        match is_escaped(c) {
             true => escaped.push_str(&format!(in rt.alloc(); "\\u{{{:x}}}", c as u32)?)?,
             false => escaped.push(c)?,
         }
@@ -64,7 +64,7 @@ fn assert_shows(
     let (rest, carets) = printed.rsplit_once('\n').ok_or("no caret line")?;
     let (_, line) = rest.rsplit_once('\n').ok_or("no line")?;
     assert!(rt;
-        !line.chars().chain(carets.chars()).any(is_hidden),
+        !line.chars().chain(carets.chars()).any(is_escaped),
         "{printed:?}"
     );
     assert!(rt;
@@ -163,7 +163,7 @@ fn drawn_strings_are_shown(rt: HostRuntime) -> Result<(), Fail> {
             };
             let shown = error.to_string(rt.alloc())?;
             let (message, _) = shown.split_once('\n').ok_or("one line")?;
-            assert!(rt; !message.chars().any(is_hidden), "{shown:?}");
+            assert!(rt; !message.chars().any(is_escaped), "{shown:?}");
             assert_shows(&rt, &shown, "", (&text, *offset, offset + part.len()))?;
         }
     }

@@ -8,7 +8,7 @@ use Rattle.std.specs.Int.{IsInRange}
 use Rattle.humantime.proofs.Dates.{before_later, valid_from_test}
 use Rattle.humantime.proofs.Dates.{days_of_years_closed, days_of_months_closed}
 use Rattle.humantime.specs.declared.calendar.Date.{Date}
-use Rattle.humantime_std.specs.Schedule.{BeginsMonth}
+use Rattle.humantime_std.specs.Schedule.{BeginsMonth, december_9999}
 
 -- ---- dates in the order of a number
 
@@ -60,14 +60,14 @@ in_order a b first second fits = elim (cases_lt (key a) (key b)) [
 abbrev december : Date
 december = record { year = 9999; month = 12; day = 1 }
 
-december_is : day_of december ≡ 2_932_866
+december_is : day_of december ≡ december_9999
 december_is =
     let years = days_of_years_closed 9999 (omega arith) in
     let months = days_of_months_closed 9999 12 (omega arith) (omega arith) in
     omega (arith, years, months)
 
 -- No month begins later.
-pub last_month_begins : (n : ℕ) → BeginsMonth n → n ≤ 2_932_866
+pub last_month_begins : (n : ℕ) → BeginsMonth n → n ≤ december_9999
 last_month_begins n begins =
     let date = begins.date in
     let within = in_range date begins.exists in
@@ -133,7 +133,7 @@ next_valid date next valid fits is =
     ]
 
 module _ (date next : Date) (valid : IsDate date) (is : IsFirstFrom date next) where
-  exists : IsDate next ↔ (day_of date ≤ 2_932_866)
+  exists : IsDate next ↔ (day_of date ≤ december_9999)
   exists =
       let least = is_least date next (in_range date valid) is in (
         λ after.
@@ -157,10 +157,10 @@ module _ (date next : Date) (valid : IsDate date) (is : IsFirstFrom date next) w
 
 -- What the day of that first promises, if there is one.
 pub record IsFound (day : ℕ) (r : Option ℕ) : Type 0 where
-  pub within : IsSome r ↔ (day ≤ 2_932_866)
+  pub within : IsSome r ↔ (day ≤ december_9999)
   pub month : IfSome r BeginsMonth
   pub from : IfSome r (λ first. day ≤ first)
-  pub first : (n : ℕ) → BeginsMonth n → day ≤ n → IfSome r (λ first. first ≤ n)
+  pub least : (n : ℕ) → BeginsMonth n → day ≤ n → IfSome r (λ first. first ≤ n)
 
 pub month_found : (date next : Date) (day : ℕ) (r : Option ℕ) → IsDateOfDay day date
     → IsFirstFrom date next → IsSome r ↔ IsDate next → IfSome r (λ n. n ≡ day_of next)
@@ -169,7 +169,7 @@ month_found date next day None of is some found = record {
   within = grind (arith, exists date next of.0 is, some, of.1);
   month = tt;
   from = tt;
-  first = λ n begins fits. tt;
+  least = λ n begins fits. tt;
 }
 month_found date next day (Some n) of is some found =
     let after = some.0 refl in
@@ -180,7 +180,7 @@ month_found date next day (Some n) of is some found =
       within = grind (arith, exists date next of.0 is, some, of.1);
       month = subst BeginsMonth (sym found) begins;
       from = omega (arith, in_order date next of.0 after least.reached, found, of.1);
-      first = λ m begins fits.
+      least = λ m begins fits.
           let early = least_day date next of.0 is m after begins (omega (arith, of.1)) in
           omega (arith, early, found);
     }

@@ -9,13 +9,19 @@ use Rattle.humantime.specs.Prelude.{moment_end}
 use Rattle.humantime_std.proofs.Months.{last_month_begins}
 use Rattle.humantime_std.specs.Schedule.{IsDue, IsNextRun}
 use Rattle.humantime_std.specs.Schedule.{BeginsMonth, IsMonthlyDue, IsNextMonthlyRun}
-use Rattle.humantime_std.specs.Schedule.{last_month, midnight}
+use Rattle.humantime_std.specs.Schedule.{december_9999, midnight}
 
 -- The first run is the next one if there is no gap.
 first_run : (last now : ℤ) (every : ℕ) → now ≤ℤ last → IsNextRun last every now (last +ℤ pos every)
 first_run last now every early = record {
-  due = record { periods = 1; later = omega arith; at = omega (arith, ints); reached = omega (arith, ints) };
-  first = λ u due. omega (arith, ints, mul-le 1 every due.periods every due.later (omega arith));
+  due = record {
+    periods = 1;
+    one_or_more = omega arith;
+    at = omega (arith, ints);
+    not_before_now = omega (arith, ints);
+  };
+  earliest =
+      λ u due. omega (arith, ints, mul-le 1 every due.periods every due.one_or_more (omega arith));
 }
 
 -- Whole periods that are not shorter than the gap, but shorter than the gap and one more period,
@@ -27,8 +33,13 @@ run_after_gap last now gap every wait k is some whole reached short =
     let least : (j : ℕ) → gap ≤ j * every → k * every ≤ j * every = λ j reached.
     grind (arith, (cases_lt j k), (row_fits j every k every), (mul-le k every j every)) in
     record {
-      due = record { periods = k; later = grind arith; at = omega (arith, ints); reached = omega (arith, ints) };
-      first = λ u due. omega (arith, ints, least due.periods (omega (arith, ints)));
+      due = record {
+        periods = k;
+        one_or_more = grind arith;
+        at = omega (arith, ints);
+        not_before_now = omega (arith, ints);
+      };
+      earliest = λ u due. omega (arith, ints, least due.periods (omega (arith, ints)));
     }
 
 -- An answer is the next run if that is in range, and otherwise no run in range is due.
@@ -37,7 +48,7 @@ is_answer : (last now t : ℤ) (every : ℕ) (r : Option ℤ) → IsNextRun last
     → IfSome r (IsNextRun last every now)
     × (IsNone r ↔ ((u : ℤ) → IsDue last every now u → moment_end ≤ℤ u))
 is_answer last now t every None is given =
-    (tt, (λ none u due. grind (arith, ints, (is.first u due)), λ all. search rules))
+    (tt, (λ none u due. grind (arith, ints, (is.earliest u due)), λ all. search rules))
 is_answer last now t every (Some x) is given = (
   subst (IsNextRun last every now) (sym given.1) is,
   (λ none. absurd (search rules), λ all. absurd (omega (arith, ints, all t is.due))),
@@ -68,8 +79,8 @@ next_from_gap last now (suc g) (suc e) r first never next early late =
 
 -- The first midnight that is after the last run and not before now.
 pub record IsFirstMidnight (last now : ℤ) (day : ℕ) : Type 0 where
-  pub later : last <ℤ midnight day
-  pub reached : now ≤ℤ midnight day
+  pub after_last : last <ℤ midnight day
+  pub not_before_now : now ≤ℤ midnight day
   pub least : (n : ℕ) → last <ℤ midnight n → now ≤ℤ midnight n → day ≤ n
 
 -- The first day that begins a month, from a day on.
@@ -86,10 +97,10 @@ module _ (last now : ℤ) (day first : ℕ) (is : IsFirstMidnight last now day)
       day = first;
       month = from.month;
       at = refl;
-      later = omega (arith, ints);
-      reached = omega (arith, ints);
+      after_last = omega (arith, ints);
+      not_before_now = omega (arith, ints);
     };
-    first = λ u due.
+    earliest = λ u due.
         let midnight_from = is.least due.day (omega (arith, ints)) (omega (arith, ints)) in
         omega (arith, ints, from.least due.day due.month midnight_from);
   }
@@ -103,5 +114,5 @@ module _ (last now : ℤ) (day first : ℕ) (is : IsFirstMidnight last now day)
 
 -- No monthly run is due after the start of the last month.
 pub due_in_range : (last now t : ℤ) → IsMonthlyDue last now t
-    → (now ≤ℤ last_month) × (last <ℤ last_month)
+    → (now ≤ℤ midnight december_9999) × (last <ℤ midnight december_9999)
 due_in_range last now t due = omega (arith, ints, last_month_begins due.day due.month)

@@ -24,7 +24,8 @@ use Rattle.humantime.proofs.TextWalks.{IsReadTo, begun, not_zero, read_on, stops
 use Rattle.humantime.proofs.Spellings.{span_has_no_fault, no_fault_is_span, next_of, next_smaller, point_and_digits}
 use Rattle.humantime.proofs.Items.{one_span_view}
 use Rattle.humantime.proofs.Slices.{start_trimmed}
-use Rattle.humantime_std.specs.Located.{BeginsSpans, Fit, OverflowsAt, body, drop_spans, end_at, start_at, take_spans}
+use Rattle.humantime_std.specs.Located.{BeginsSpans, BeginsWithin, OverflowsAt, trim_front}
+use Rattle.humantime_std.specs.Located.{drop_spans, span_end, span_start, take_spans}
 
 -- ---- Offsets
 
@@ -53,7 +54,7 @@ cut_at bs front rest utf8 whole =
 
 -- The offset of what follows whitespace.
 pub trimmed_at : (bs tail t : List ℕ) → IsUtf8 bs → IsUtf8 t → t ≡ trim_start tail
-    → length bs - length t ≡ offset_of (chars bs) (body (chars tail))
+    → length bs - length t ≡ offset_of (chars bs) (trim_front (chars tail))
 trimmed_at bs tail t utf8 other is =
     grind (arith, (start_trimmed tail t other is), (encodes-chars bs utf8), (encodes-chars t other))
 
@@ -73,11 +74,11 @@ few rest (suc k) begins =
     omega (arith, few (next_of rest) k begins.1, next_smaller rest begins.0.number.digit)
 
 -- No text has as many spans as bytes and one more.
-pub too_many : (bs : List ℕ) → IsUtf8 bs → ¬ (Fit (chars bs) (suc (length bs)))
+pub too_many : (bs : List ℕ) → IsUtf8 bs → ¬ (BeginsWithin (chars bs) (suc (length bs)))
 too_many bs utf8 fit =
     absurd (omega (
       arith,
-      few (body (chars bs)) (suc (length bs)) fit.begins,
+      few (trim_front (chars bs)) (suc (length bs)) fit.begins,
       drop_while_shorter
           is_whitespace (chars bs),
       length-le-encodes (chars bs),
@@ -134,15 +135,16 @@ item_at first text rest (suc k) =
 -- What `nth` of the spans returned, if it is no error, is the span at this index.
 pub nth_is : (text : List ℕ) (it u : SpanIter) (r : Option (Result Span DurationError)) (k : ℕ)
     → AreItems text (items_left it) → SkipsThenYields GivesItem it k r u
-    → SomeIff (option_map span_view (option_and_then result_ok r)) (BeginsSpans (suc k) (body text))
-    (view_at text (drop_spans k (body text)))
+    → SomeIff (option_map span_view (option_and_then result_ok r))
+    (BeginsSpans (suc k) (trim_front text))
+    (view_at text (drop_spans k (trim_front text)))
 nth_is text it u r k are ran =
     let item =
     nth_from_yields_List r u k ran (YieldsList-from_shown GivesItem item_of items_left
     (λ s t g. ap length g.0.0) (λ s x t g. g.0) it) in
     let same : option_map span_view (option_and_then result_ok r)
     ≡ option_and_then result_ok (option_map item_of r) = grind arith in
-    rw (same, item, one_span_view text (items_left it) are) (item_at true text (body text) k)
+    rw (same, item, one_span_view text (items_left it) are) (item_at true text (trim_front text) k)
 
 -- ---- The ends of spans
 
@@ -161,29 +163,34 @@ cut_after_word bs front rest utf8 whole =
     let size = ap (λ (r : List ℕ). length (encode_utf8_all r)) parts in
     (grind (arith, size, encodes-append, length-append), cut.0, cut.2)
 
-pub after_span : (bs : List ℕ) (k : ℕ) → IsUtf8 bs → BeginsSpans (suc k) (body (chars bs))
-    → IsCharBoundary bs (end_at k (chars bs))
-    × (chars (drop (end_at k (chars bs)) bs) ≡ after_word (drop_spans k (body (chars bs))))
+pub after_span : (bs : List ℕ) (k : ℕ) → IsUtf8 bs → BeginsSpans (suc k) (trim_front (chars bs))
+    → IsCharBoundary bs (span_end k (chars bs))
+    × (chars (drop (span_end k (chars bs)) bs) ≡ after_word (drop_spans k (trim_front (chars bs))))
 after_span bs k utf8 begins =
-    let before = read_to (chars bs) _ (body (chars bs)) [] k (begun (chars bs)) ((one_more _ k).2.0 begins).0 in
+    let before =
+    read_to (chars bs) _ (trim_front (chars bs)) [] k (begun (chars bs))
+    ((one_more _ k).2.0 begins).0 in
     let cut =
-    cut_after_word bs before.0 (drop_spans k (body (chars bs))) utf8 before.1.split.whole in
+    cut_after_word bs before.0 (drop_spans k (trim_front (chars bs))) utf8 before.1.split.whole in
     (cut.1, cut.2)
 
 -- The text up to the whitespace after a span is accepted if and only if its spans are within the
 -- limits.
 pub front_decides : (bs tail t : List ℕ) (k end : ℕ) → IsUtf8 bs → IsUtf8 t
-    → BeginsSpans (suc k) (body (chars bs)) × (end ≡ end_at k (chars bs)) → tail ≡ drop end bs
+    → BeginsSpans (suc k) (trim_front (chars bs)) × (end ≡ span_end k (chars bs))
+    → tail ≡ drop end bs
     → t ≡ trim_start tail
     → let next = length bs - length t in
-    (next ≡ start_at (suc k) (chars bs)) × IsCharBoundary bs next × ((r : Result ℕ DurationError)
-    → IsDurationAnswer (take next bs) r → IsOk r ↔ Fit (chars bs) (suc k))
+    (next ≡ span_start (suc k) (chars bs)) × IsCharBoundary bs next × ((r : Result ℕ DurationError)
+    → IsDurationAnswer (take next bs) r → IsOk r ↔ BeginsWithin (chars bs) (suc k))
 front_decides bs tail t k end utf8 other found cut trim =
-    let next : length bs - length t ≡ start_at (suc k) (chars bs) =
-    rw ((one_more (body (chars bs)) k).0) (rw (cut, found.1, (after_span bs k utf8 found.0).1) at
+    let next : length bs - length t ≡ span_start (suc k) (chars bs) =
+    rw ((one_more (trim_front (chars bs)) k).0)
+    (rw (cut, found.1, (after_span bs k utf8 found.0).1) at
     (trimmed_at bs tail t utf8 other trim)) in
-    let before = read_to (chars bs) _ (body (chars bs)) [] (suc k) (begun (chars bs)) found.0 in
-    let spans = take_spans (suc k) (body (chars bs)) in
+    let before =
+    read_to (chars bs) _ (trim_front (chars bs)) [] (suc k) (begun (chars bs)) found.0 in
+    let spans = take_spans (suc k) (trim_front (chars bs)) in
     let front = cut_at bs before.0 _ utf8 before.1.split.whole in
     let read : Reads before.0 spans = (before.1.split.spelled, λ none. grind arith) in
     let summed =
@@ -224,15 +231,15 @@ overflow_row text front rest spans read some over within beyond =
 -- A text that overflows, and whose first `k` spans and no more are within the limits, overflows at
 -- the next span, or to its end if there is none.
 pub overflows_after : (bs : List ℕ) (k j : ℕ) (end : Option ℕ) → IsUtf8 bs
-    → duration_answer (chars bs) ≡ Err NumberOverflow → Fit (chars bs) k
-    → ¬ (Fit (chars bs) (suc k))
-    → SomeIff end (BeginsSpans (suc j) (body (chars bs))) (end_at j (chars bs)) → j ≡ k
-    → OverflowsAt (chars bs) (start_at k (chars bs)) (unwrap_or end (length bs))
+    → duration_answer (chars bs) ≡ Err NumberOverflow → BeginsWithin (chars bs) k
+    → ¬ (BeginsWithin (chars bs) (suc k))
+    → SomeIff end (BeginsSpans (suc j) (trim_front (chars bs))) (span_end j (chars bs)) → j ≡ k
+    → OverflowsAt (chars bs) (span_start k (chars bs)) (unwrap_or end (length bs))
 overflows_after bs k j end utf8 over fit beyond found same =
-    let rest = drop_spans k (body (chars bs)) in
+    let rest = drop_spans k (trim_front (chars bs)) in
     let some = (fault_from_outcome _ _ over).not_zero in
-    let read = read_to (chars bs) _ (body (chars bs)) [] k (begun (chars bs)) fit.begins in
-    let more = one_more (body (chars bs)) k in
+    let read = read_to (chars bs) _ (trim_front (chars bs)) [] k (begun (chars bs)) fit.begins in
+    let more = one_more (trim_front (chars bs)) k in
     let row =
     overflow_row (chars bs) read.0 rest _ read.1 some over fit.within (λ next. beyond
     (record { begins = more.2.1 (fit.begins, next.0); within = rw (more.1) (next.1) })) in
@@ -242,7 +249,7 @@ overflows_after bs k j end utf8 over fit beyond found same =
             not_zero = some;
             front = read.0;
             rest = rest;
-            spans = take_spans k (body (chars bs));
+            spans = take_spans k (trim_front (chars bs));
             split = read.1.split;
             within = fit.within;
             row = row;

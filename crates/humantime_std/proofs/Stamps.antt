@@ -1,5 +1,5 @@
 -- The timestamp at the front of a line of a log.
-use Rattle.std.proofs.Common.{◌≡◌, ℕ, ◌+◌, ◌<◌, ◌≤◌, List, [], Option, Some, None, true, sym, length, take, drop, slice_index, arith, length-drop, drop-drop, get_or-drop}
+use Rattle.std.proofs.Common.{◌≡◌, ℕ, ◌+◌, ◌<◌, List, [], Some, None, IsCharBoundary, IsUtf8, true, sym, length, take, drop, slice_index, arith, length-drop, drop-drop, get_or-drop}
 use Rattle.std.proofs.lemmas.Bool.Decides.{nat_tests}
 use Rattle.std.proofs.lemmas.Grind.{common_steps}
 use Rattle.std.proofs.Math.Seq.{take-add}
@@ -7,7 +7,7 @@ use Rattle.std.proofs.lemmas.List.Sums.{passes_at_first, prefix_len-le-length}
 use Rattle.std.proofs.lemmas.Str.{IsCharBoundary-before_ascii, IsCharBoundary-after_ascii}
 use Rattle.std.specs.Char.{is_ascii_whitespace}
 use Rattle.std.specs.List.{position, position_or_len}
-use Rattle.humantime_std.specs.Logs.{stamp_of, after_stamp}
+use Rattle.humantime_std.specs.Logs.{leading_stamp, after_stamp}
 
 white_is_ascii : (b : ℕ) → is_ascii_whitespace b ≡ true → b < 128
 white_is_ascii b white = grind (arith, nat_tests)
@@ -28,34 +28,23 @@ white_at bytes at found =
       ascii = grind (arith, nat_tests, first, white_is_ascii);
     }
 
--- The whitespace that is found after a date is `len` bytes after it.
-module _ (line : List ℕ) (len : ℕ) where
-  abbrev Found : Type 0
-  Found = position is_ascii_whitespace (drop 11 line) ≡ Some len
+-- The whitespace that is found `len` bytes after a date ends the timestamp.
+pub split_at_space : (line : List ℕ) (len : ℕ) → IsUtf8 line
+    → position is_ascii_whitespace (drop 11 line) ≡ Some len
+    → IsCharBoundary line (11 + len) × IsCharBoundary line (11 + len + 1)
+    × (take (11 + len) line ≡ leading_stamp line) × (drop (11 + len + 1) line ≡ after_stamp line)
+split_at_space line len utf8 found =
+    let white = white_at (drop 11 line) len found in
+    let inside : 11 + len < length line = omega (arith, white, length-drop 11 line) in
+    let ascii : slice_index line (11 + len) < 128 = omega (arith, white, get_or-drop 11 line len 0) in
+    let same : 11 + len + 1 ≡ 11 + (len + 1) = omega arith in (
+      IsCharBoundary-before_ascii line (11 + len) inside ascii,
+      IsCharBoundary-after_ascii line (11 + len) utf8 inside ascii,
+      rw white.first (take-add 11 len line),
+      rw (white.first, same) (sym (drop-drop (len + 1) 11 line)),
+    )
 
-  pub space_is_ascii : Found → (11 + len < length line) × (slice_index line (11 + len) < 128)
-  space_is_ascii found =
-      let white = white_at (drop 11 line) len found in
-      omega (arith, white, length-drop 11 line, get_or-drop 11 line len 0)
-
-  pub stamp_before : (end : ℕ) → end ≡ 11 + len → Found → take end line ≡ stamp_of line
-  stamp_before end is found =
-      rw (is, (white_at (drop 11 line) len found).first) (take-add 11 len line)
-
-  pub rest_after : Found → drop (11 + len + 1) line ≡ after_stamp line
-  rest_after found =
-      let same : 11 + len + 1 ≡ 11 + (len + 1) = omega arith in
-      rw ((white_at (drop 11 line) len found).first, same) (sym (drop-drop (len + 1) 11 line))
-
+-- Without whitespace after a date, the whole line is the timestamp.
 pub no_space : (line : List ℕ) → position is_ascii_whitespace (drop 11 line) ≡ None
-    → (line ≡ stamp_of line) × (after_stamp line ≡ [])
+    → (line ≡ leading_stamp line) × (after_stamp line ≡ [])
 no_space line missing = grind (arith, common_steps, nat_tests, (prefix_len-le-length {X = ℕ}))
-
-pub ruleset stamp_parts = (
-  space_is_ascii,
-  stamp_before,
-  rest_after,
-  no_space,
-  IsCharBoundary-before_ascii,
-  IsCharBoundary-after_ascii,
-)

@@ -50,7 +50,7 @@ pub fn sleep(clock: &impl Clock, duration: StdDuration) {
 }
 
 /// Returns the time since an instant, less than 2^63 seconds, or zero if the clock reads an earlier
-/// one.
+/// instant.
 ///
 /// # Errors
 ///

@@ -1,7 +1,8 @@
 //! Methods of std's `Duration` for [`StdDuration`], conversions from and to it, and the offset of a
 //! duration's error.
 
-ghost use Rattle.std.specs.Prelude.{◌≡◌, ◌≢◌, ◌-◌, ◌*◌, ◌/◌, ◌<◌, ◌≤◌, ◌↔◌, ℕ, min, option_map, IsTrue, SomeIff};
+ghost use Rattle.std.specs.Prelude.{◌≡◌, ◌≢◌, ◌-◌, ◌*◌, ◌/◌, ◌<◌, ◌≤◌, ◌↔◌, ℕ, min, option_map};
+ghost use Rattle.std.specs.Prelude.{IsTrue, SomeIff};
 ghost use Rattle.std.specs.Duration.{as_nanos};
 ghost use Rattle.humantime.specs.Prelude.{duration_end, fault_of, fault_offset};
 ghost use Rattle.humantime_std.specs.Rounding.{nearest_multiple};
@@ -66,8 +67,10 @@ pub trait StdDurationExt: Sized {
     /// use humantime::StdDuration;
     /// use humantime_std::StdDurationExt;
     ///
-    /// assert_eq!(rt; StdDuration::checked_from_nanos_u128(90_000_000_005), Some(StdDuration::new(90, 5)));
-    /// assert_eq!(rt; StdDuration::checked_from_nanos_u128(18_446_744_073_709_551_616_000_000_000), None);
+    /// let duration = StdDuration::checked_from_nanos_u128(90_000_000_005);
+    /// assert_eq!(rt; duration, Some(StdDuration::new(90, 5)));
+    /// let too_long = 18_446_744_073_709_551_616_000_000_000;
+    /// assert_eq!(rt; StdDuration::checked_from_nanos_u128(too_long), None);
     /// ```
     fn checked_from_nanos_u128(nanos: u128) -> Option<Self>
         ensures { SomeIff (option_map total_nanos result) (nanos < duration_end) nanos };
@@ -126,7 +129,8 @@ pub trait StdDurationExt: Sized {
     /// use humantime_std::StdDurationExt;
     ///
     /// let long = StdDuration::from_secs(90);
-    /// assert_eq!(rt; long.checked_sub(StdDuration::new(60, 1)), Some(StdDuration::new(29, 999_999_999)));
+    /// let rest = StdDuration::new(29, 999_999_999);
+    /// assert_eq!(rt; long.checked_sub(StdDuration::new(60, 1)), Some(rest));
     /// assert_eq!(rt; StdDuration::ZERO.checked_sub(long), None);
     /// ```
     fn checked_sub(self, other: Self) -> Option<Self>
@@ -141,7 +145,8 @@ pub trait StdDurationExt: Sized {
     /// use humantime::StdDuration;
     /// use humantime_std::StdDurationExt;
     ///
-    /// assert_eq!(rt; StdDuration::from_secs(60).saturating_sub(StdDuration::from_secs(90)), StdDuration::ZERO);
+    /// let (short, long) = (StdDuration::from_secs(60), StdDuration::from_secs(90));
+    /// assert_eq!(rt; short.saturating_sub(long), StdDuration::ZERO);
     /// ```
     fn saturating_sub(self, other: Self) -> Self
         ensures { total_nanos result ≡ total_nanos self - total_nanos other };
@@ -175,7 +180,8 @@ pub trait StdDurationExt: Sized {
     /// assert_eq!(rt; total.checked_div(0), None);
     /// ```
     fn checked_div(self, divisor: u64) -> Option<Self>
-        ensures { SomeIff (option_map total_nanos result) (divisor ≢ 0) (total_nanos self / divisor) };
+        ensures { SomeIff (option_map total_nanos result) (divisor ≢ 0)
+            (total_nanos self / divisor) };
 
     /// Truncates this duration to a multiple of a step, or returns `None` if the step is zero.
     ///
@@ -185,8 +191,8 @@ pub trait StdDurationExt: Sized {
     /// use humantime::{StdDuration, parse_duration};
     /// use humantime_std::StdDurationExt;
     ///
-    /// let mean = parse_duration("1m 2s 333ms")?;
-    /// assert_eq!(rt; mean.checked_trunc_to(parse_duration("1s")?), Some(parse_duration("1m 2s")?));
+    /// let (mean, second) = (parse_duration("1m 2s 333ms")?, StdDuration::from_secs(1));
+    /// assert_eq!(rt; mean.checked_trunc_to(second), Some(parse_duration("1m 2s")?));
     /// assert_eq!(rt; mean.checked_trunc_to(StdDuration::ZERO), None);
     /// ```
     fn checked_trunc_to(self, step: Self) -> Option<Self>
@@ -215,6 +221,8 @@ pub trait StdDurationExt: Sized {
             ((total_nanos step ≢ 0) × (nanos < duration_end)) nanos };
 }
 
+// In contracts a `StdDuration` is its number of nanoseconds. So the clauses below are those of the
+// trait without `total_nanos`, and that this number is in the range of the type.
 impl StdDurationExt for StdDuration {
     ghost total_nanos = { λ d. d };
 
@@ -246,11 +254,15 @@ impl StdDurationExt for StdDuration {
         self.to_std().as_nanos()
     }
 
-    fn as_millis(self) -> u128 {
+    fn as_millis(self) -> u128
+        ensures { result ≡ self / 1_000_000 }
+    {
         self.to_std().as_millis()
     }
 
-    fn is_zero(self) -> bool {
+    fn is_zero(self) -> bool
+        ensures { IsTrue result ↔ (self ≡ 0) }
+    {
         self == StdDuration::ZERO
     }
 
@@ -260,7 +272,9 @@ impl StdDurationExt for StdDuration {
         Some(StdDuration::from_std(self.to_std().checked_sub(other.to_std())?))
     }
 
-    fn saturating_sub(self, other: StdDuration) -> StdDuration {
+    fn saturating_sub(self, other: StdDuration) -> StdDuration
+        ensures { result ≡ self - other }
+    {
         StdDuration::from_std(self.to_std().saturating_sub(other.to_std()))
     }
 
@@ -294,8 +308,8 @@ impl StdDurationExt for StdDuration {
     }
 }
 
-/// Returns the delay before one more try: `factor` times as long as the delay before the last one,
-/// but not longer than `most`.
+/// Returns the delay before the next try: `factor` times `delay`, but at most `most`. `delay` is
+/// the one before the last try.
 ///
 /// # Examples
 ///

@@ -1,16 +1,20 @@
 //! The parsers of `humantime`, with errors that contain the range of the bytes that are wrong, and
 //! what prints these with carets, from `humantime_lines`.
 
-ghost use Rattle.std.specs.Prelude.{◌≡◌, ◌+◌, ◌-◌, ◌^◌, ◌<◌, ◌≤◌, chars, drop, length, min, suc, take, true, Err, IfErr, SomeIff};
+ghost use Rattle.std.specs.Prelude.{◌≡◌, ◌+◌, ◌-◌, ◌^◌, ◌<◌, ◌≤◌, chars, length, min, suc, true};
+ghost use Rattle.std.specs.Prelude.{Err, IfErr, SomeIff};
 ghost use Rattle.std.specs.Char.{is_ascii_digit};
-ghost use Rattle.std.specs.List.{after_last, before_first, prefix_len};
+ghost use Rattle.std.specs.List.{prefix_len};
 ghost use Rattle.std.specs.Result.{result_err, result_map_both};
 ghost use Rattle.std.specs.Str.{IsCharBoundary};
-ghost use Rattle.humantime.specs.Prelude.{NumberOverflow, duration_answer, fault_of, strict_answer, weak_answer};
+ghost use Rattle.humantime.specs.Prelude.{NumberOverflow, duration_answer, fault_of};
+ghost use Rattle.humantime.specs.Prelude.{strict_answer, weak_answer};
 ghost use Rattle.humantime.specs.Timestamps.{has_digits, has_two_digits, number_between};
-ghost use Rattle.humantime_lines.specs.Lines.{line_after, line_before, line_number};
+ghost use Rattle.humantime_lines.specs.Lines.{line_before, line_number, line_part, line_rest};
 ghost use Rattle.humantime_std.specs.Located as spec;
-ghost use Rattle.humantime_std.specs.Located.{BeginsSpans, Fit, IsFaultRange, IsRangeIn, OverflowsAt, body, end_at, start_at, strict_error, weak_error};
+ghost use Rattle.humantime_std.specs.Located.{BeginsSpans, BeginsWithin, IsFaultRange, IsRangeIn};
+ghost use Rattle.humantime_std.specs.Located.{OverflowsAt, trim_front, span_end, span_start};
+ghost use Rattle.humantime_std.specs.Located.{strict_error, weak_error};
 
 use humantime::{
     Date, DurationError, StdDuration, SystemTime, TimestampError, Turns, day_number, spans,
@@ -66,19 +70,19 @@ impl<E> Located<E> {
         ensures before { IsCharBoundary text.now self.now.start
             → result.before.now ≡ line_before text.now self.now.start }
         ensures part { IsRangeIn text.now self.now.start self.now.end
-            → let len = self.now.end - self.now.start in
-            result.part.now ≡ take len (line_after text.now self.now.start) }
+            → result.part.now ≡ line_part text.now self.now.start self.now.end }
         ensures after { IsRangeIn text.now self.now.start self.now.end
-            → let len = self.now.end - self.now.start in
-            result.after.now ≡ drop len (line_after text.now self.now.start) }
+            → result.after.now ≡ line_rest text.now self.now.start self.now.end }
         ensures end { ¬ (IsCharBoundary text.now self.now.start)
             → result.before.now ≡ line_before text.now (length text.now) }
     {
         MarkedLine::new(text, self.start..self.end)
     }
 
-    /// Returns this error with its line, to print with what is wrong and a caret line. The messages
-    /// of `humantime` contain no character that controls a terminal.
+    /// Returns this error with its line, to print with carets below what is wrong.
+    ///
+    /// The report writes the message of the error as it is. Those of `humantime` contain no
+    /// character that controls a terminal.
     ///
     /// # Examples
     ///
@@ -98,11 +102,9 @@ impl<E> Located<E> {
         ensures before { IsCharBoundary text.now self.start
             → result.line.before.now ≡ line_before text.now self.start }
         ensures part { IsRangeIn text.now self.start self.end
-            → let len = self.end - self.start in
-            result.line.part.now ≡ take len (line_after text.now self.start) }
+            → result.line.part.now ≡ line_part text.now self.start self.end }
         ensures after { IsRangeIn text.now self.start self.end
-            → let len = self.end - self.start in
-            result.line.after.now ≡ drop len (line_after text.now self.start) }
+            → result.line.after.now ≡ line_rest text.now self.start self.end }
     {
         Report::new(self.error, text, self.start..self.end)
     }
@@ -117,8 +119,8 @@ impl<E> Located<E> {
     /// use humantime_std::located::parse_duration;
     ///
     /// let line = "limit = 5 moons";
-    /// let error = parse_duration("5 moons").expect_err(&rt, "no such unit").after("limit = ".len());
-    /// assert_eq!(rt; error.marked_line(line).part, "moons");
+    /// let error = parse_duration("5 moons").expect_err(&rt, "no such unit");
+    /// assert_eq!(rt; error.after("limit = ".len()).marked_line(line).part, "moons");
     /// ```
     pub fn after(self, offset: usize) -> Located<E>
         ensures error { result.error ≡ self.error }
@@ -154,10 +156,13 @@ static LAYOUT: [u8; 19] = *b"0000-00-00 00:00:00";
 ///
 /// # Errors
 ///
-/// The range of an error is the wrong character, or the unknown unit; where a unit is missing, it
-/// is empty, at the end of the string. The range of `NumberOverflow` is the first span with which
-/// the string overflows, or, if its number or fraction is too long, everything from its start on.
-/// The range of `Empty` is the whole string.
+/// Returns its error with the bytes that are wrong:
+///
+/// - of `InvalidCharacter` and `NumberExpected` the character at their offset;
+/// - of `UnknownUnit` the unit, or no bytes at the end of the string if the unit is missing;
+/// - of `NumberOverflow` the first span with which the string overflows, or everything from this
+///   span on if its number or its fraction is too long;
+/// - of `Empty` the whole string.
 ///
 /// # Examples
 ///
@@ -173,8 +178,8 @@ static LAYOUT: [u8; 19] = *b"0000-00-00 00:00:00";
 pub fn parse_duration(text: &str) -> Result<StdDuration, Located<DurationError<'_>>>
     ensures answer { result_map_both (λ d. d) (λ e. fault_of e.error) result
         ≡ duration_answer (chars text.now) }
-    ensures place { IfErr result (λ e. IsFaultRange text.now (fault_of e.error) e.start e.end) }
-    ensures range { IfErr result (λ e. IsRangeIn text.now e.start e.end) }
+    ensures range { IfErr result (λ e. IsFaultRange text.now (fault_of e.error) e.start e.end) }
+    ensures boundaries { IfErr result (λ e. IsRangeIn text.now e.start e.end) }
 {
     let error = match humantime::parse_duration(text) {
         Ok(duration) => return Ok(duration),
@@ -197,10 +202,10 @@ pub fn parse_duration(text: &str) -> Result<StdDuration, Located<DurationError<'
 ///
 /// Returns its error with the bytes that are wrong:
 ///
-/// - if the first 19 bytes are not of the format `0000-00-00 00:00:00` (or with `T`), the first
-///   character that cannot be there, or the end of the string if it ends before that;
-/// - else, if a number is out of range, the first of these, such as the day;
-/// - else what follows the longest start of the string that has the format.
+/// - if the string does not begin with the format `0000-00-00 00:00:00` (or with a `T`), the first
+///   character that cannot be there, or no bytes at the end of the string if it ends before that;
+/// - else, if a number is out of range, the first such number;
+/// - else what follows the longest timestamp at the front.
 ///
 /// # Examples
 ///
@@ -219,8 +224,8 @@ pub fn parse_duration(text: &str) -> Result<StdDuration, Located<DurationError<'
 /// ```
 pub fn parse_rfc3339_weak(text: &str) -> Result<SystemTime, Located<TimestampError>>
     ensures answer { result_map_both (λ t. t) (λ e. e.error) result ≡ weak_answer text.now }
-    ensures place { result_err result ≡ weak_error text.now }
-    ensures range { IfErr result (λ e. IsRangeIn text.now e.start e.end) }
+    ensures range { result_err result ≡ weak_error text.now }
+    ensures boundaries { IfErr result (λ e. IsRangeIn text.now e.start e.end) }
 {
     humantime::parse_rfc3339_weak(text).map_err(|error| locate(text, error, false))
 }
@@ -238,7 +243,8 @@ pub fn parse_rfc3339_weak(text: &str) -> Result<SystemTime, Located<TimestampErr
 /// ```
 /// use humantime_std::located::parse_rfc3339;
 ///
-/// for (text, start, part) in [("2018-02-14 00:28:07Z", 10, " "), ("2018-02-14T00:28:07", 19, "")] {
+/// let (with_space, without_zone) = ("2018-02-14 00:28:07Z", "2018-02-14T00:28:07");
+/// for (text, start, part) in [(with_space, 10, " "), (without_zone, 19, "")] {
 ///     let error = parse_rfc3339(text).expect_err(&rt, "wrong");
 ///     assert_eq!(rt; (error.start, error.marked_line(text).part), (start, part));
 /// }
@@ -246,8 +252,8 @@ pub fn parse_rfc3339_weak(text: &str) -> Result<SystemTime, Located<TimestampErr
 /// ```
 pub fn parse_rfc3339(text: &str) -> Result<SystemTime, Located<TimestampError>>
     ensures answer { result_map_both (λ t. t) (λ e. e.error) result ≡ strict_answer text.now }
-    ensures place { result_err result ≡ strict_error text.now }
-    ensures range { IfErr result (λ e. IsRangeIn text.now e.start e.end) }
+    ensures range { result_err result ≡ strict_error text.now }
+    ensures boundaries { IfErr result (λ e. IsRangeIn text.now e.start e.end) }
 {
     humantime::parse_rfc3339(text).map_err(|error| locate(text, error, true))
 }
@@ -258,14 +264,14 @@ pub fn parse_rfc3339(text: &str) -> Result<SystemTime, Located<TimestampError>>
 /// so a test for each span would take quadratic time.
 fn overflow_range(text: &str) -> (usize, usize)
     requires { duration_answer (chars text.now) ≡ Err NumberOverflow }
-    ensures place { OverflowsAt (chars text.now) result.0 result.1 }
-    ensures range { IsRangeIn text.now result.0 result.1 }
+    ensures range { OverflowsAt (chars text.now) result.0 result.1 }
+    ensures boundaries { IsRangeIn text.now result.0 result.1 }
 {
     let (mut low, mut high) = (0, text.len());
     let mut start = text.len() - text.trim_start().len();
     while low < high {
         let middle = low + (high - low) / 2;
-        match fitting_end(text, middle) {
+        match end_within_limits(text, middle) {
             Some(end) => {
                 low = middle + 1;
                 start = end;
@@ -279,9 +285,9 @@ fn overflow_range(text: &str) -> (usize, usize)
 /// Returns the offset after the span at an index and the whitespace after it, if the spans up to
 /// this one are within the limits.
 #[tactic(auto, using(crate::proofs::Overflows::after_span))]
-fn fitting_end(text: &str, index: usize) -> Option<usize>
-    ensures { SomeIff result (Fit (chars text.now) (suc index))
-        (start_at (suc index) (chars text.now)) }
+fn end_within_limits(text: &str, index: usize) -> Option<usize>
+    ensures { SomeIff result (BeginsWithin (chars text.now) (suc index))
+        (span_start (suc index) (chars text.now)) }
 {
     let (_, rest) = text.split_at(span_end(text, index)?);
     let end = text.len() - rest.trim_start().len();
@@ -291,8 +297,8 @@ fn fitting_end(text: &str, index: usize) -> Option<usize>
 
 /// Returns the offset after the span at an index, if there is one.
 fn span_end(text: &str, index: usize) -> Option<usize>
-    ensures { SomeIff result (BeginsSpans (suc index) (body (chars text.now)))
-        (end_at index (chars text.now)) }
+    ensures { SomeIff result (BeginsSpans (suc index) (trim_front (chars text.now)))
+        (span_end index (chars text.now)) }
 {
     let item = spans(text).nth(index);
     item.and_then(Result::ok).map(|span| span.end())
@@ -301,8 +307,8 @@ fn span_end(text: &str, index: usize) -> Option<usize>
 /// Returns an error of a timestamp with its range.
 #[tactic(auto, using(crate::proofs::Inside::fit_inside, crate::proofs::Inside::timestamp_inside))]
 fn locate(text: &str, error: TimestampError, strict: bool) -> Located<TimestampError>
-    ensures error { result ≡ spec.located strict text.now error }
-    ensures range { IsRangeIn text.now result.start result.end }
+    ensures error { result ≡ spec.locate strict text.now error }
+    ensures boundaries { IsRangeIn text.now result.start result.end }
 {
     let fitting = fit_len(text, strict);
     let (start, end) = if fitting < LAYOUT.len() {
@@ -340,12 +346,12 @@ fn fit_len(text: &str, strict: bool) -> usize
     LAYOUT.iter().zip(bytes).take_while(fits).count()
 }
 
-/// Returns the bytes of the first number that is out of its bounds.
+/// Returns the range of the first number that is out of its bounds.
 #[tactic(auto, using(crate::proofs::Inside::fields), unfolding(crate::proofs::Inside::fields_open))]
 fn wrong_field(bytes: &[u8]) -> (usize, usize)
     requires long { 19 ≤ length bytes.now }
     requires digits { has_digits bytes.now ≡ true }
-    ensures bytes { result ≡ spec.wrong_field bytes.now }
+    ensures range { result ≡ spec.wrong_field bytes.now }
     ensures order { result.0 ≤ result.1 }
     ensures within { result.1 ≤ 19 }
 {

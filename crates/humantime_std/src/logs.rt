@@ -4,12 +4,12 @@ ghost use Rattle.std.specs.Prelude.{◌≡◌, drop, length, option_map, positio
 ghost use Rattle.std.specs.Char.{is_ascii_whitespace};
 ghost use Rattle.std.specs.Result.{result_ok};
 ghost use Rattle.humantime.specs.Prelude.{weak_answer};
-ghost use Rattle.humantime_std.specs.Logs.{stamp_of, after_stamp};
+ghost use Rattle.humantime_std.specs.Logs.{leading_stamp, after_stamp};
 
 use humantime::{SystemTime, parse_rfc3339_weak};
 
 /// The length of a date and the byte after it, which may be a space.
-const DATE: usize = 11;
+const TIME_START: usize = 11;
 
 /// Returns the time of the timestamp at the front of a line, and what follows it, or `None` if
 /// there is no timestamp.
@@ -34,7 +34,7 @@ const DATE: usize = 11;
 /// ```
 pub fn split_leading_time(line: &str) -> Option<(SystemTime, &str)>
     ensures time { option_map (λ parts. parts.0) result
-        ≡ result_ok (weak_answer (stamp_of line.now)) }
+        ≡ result_ok (weak_answer (leading_stamp line.now)) }
     ensures rest { IfSome result (λ parts. parts.1.now ≡ after_stamp line.now) }
 {
     let (stamp, rest) = split_stamp(line);
@@ -42,13 +42,12 @@ pub fn split_leading_time(line: &str) -> Option<(SystemTime, &str)>
 }
 
 /// Splits a line at the whitespace that ends its timestamp, if it has one.
-#[tactic(auto, using(crate::proofs::Stamps::stamp_parts))]
 fn split_stamp(line: &str) -> (&str, &str)
-    ensures stamp { result.0.now ≡ stamp_of line.now }
+    ensures stamp { result.0.now ≡ leading_stamp line.now }
     ensures rest { result.1.now ≡ after_stamp line.now }
 {
     match time_len(line) {
-        Some(len) => (&line[..DATE + len], &line[DATE + len + 1..]),
+        Some(len) => (&line[..TIME_START + len], &line[TIME_START + len + 1..]),
         None => (line, ""),
     }
 }
@@ -58,6 +57,6 @@ fn split_stamp(line: &str) -> (&str, &str)
 fn time_len(line: &str) -> Option<usize>
     ensures { result ≡ position is_ascii_whitespace (drop 11 line.now) }
 {
-    let mut bytes = line.bytes().skip(DATE);
+    let mut bytes = line.bytes().skip(TIME_START);
     bytes.position(|byte| byte.is_ascii_whitespace())
 }

@@ -1,12 +1,14 @@
 //! Times of std, a time minus a duration, and the next run of a job.
 
-ghost use Rattle.std.specs.Prelude.{◌≡◌, ◌+◌, ◌*◌, ◌<◌, ◌↔◌, ◌+ℤ◌, ◌-ℤ◌, ◌≤ℤ◌, ◌<ℤ◌, ℤ, Some, pos, neg_ℤ, option_map, IfSome, IsNone, IsSome, SomeIff};
+ghost use Rattle.std.specs.Prelude.{◌≡◌, ◌+◌, ◌*◌, ◌<◌, ◌↔◌, ◌+ℤ◌, ◌-ℤ◌, ◌≤ℤ◌, ◌<ℤ◌, ℤ, Some, pos};
+ghost use Rattle.std.specs.Prelude.{neg_ℤ, option_map, IfSome, IsNone, IsSome, SomeIff};
 ghost use Rattle.std.specs.Prelude.{◌≤◌, ℕ};
 ghost use Rattle.std.specs.Int.{div_ceil};
 ghost use Rattle.std.specs.Time.{FitsClock, system_time_nanos};
 ghost use Rattle.humantime.specs.Prelude.{moment_end, IsDate};
 ghost use Rattle.humantime_std.specs.Schedule.{IsDue, IsNextRun};
-ghost use Rattle.humantime_std.specs.Schedule.{BeginsMonth, IsNextMonthlyRun, last_month, midnight};
+ghost use Rattle.humantime_std.specs.Schedule.{BeginsMonth, IsNextMonthlyRun, december_9999};
+ghost use Rattle.humantime_std.specs.Schedule.{midnight};
 
 use crate::durations::StdDurationExt;
 use humantime::{Date, StdDuration, SystemTime, Turns, UNIX_EPOCH, date_of_day, day_number};
@@ -91,7 +93,8 @@ impl SystemTimeExt for SystemTime {
     ghost moment = { λ t. t };
 
     fn from_std(time: time::SystemTime) -> Option<SystemTime>
-        ensures { SomeIff result (FitsClock (system_time_nanos time)) (pos (system_time_nanos time)) }
+        ensures { SomeIff result (FitsClock (system_time_nanos time))
+            (pos (system_time_nanos time)) }
     {
         let since = time.duration_since(time::UNIX_EPOCH).ok()?;
         UNIX_EPOCH.checked_add(StdDuration::from_std(since))
@@ -106,12 +109,12 @@ impl SystemTimeExt for SystemTime {
     }
 
     fn checked_sub(self, duration: StdDuration) -> Option<SystemTime>
-        ensures { SomeIff result (neg_ℤ moment_end ≤ℤ (self -ℤ pos duration)) (self -ℤ pos duration) }
+        ensures { let t = self -ℤ pos duration in SomeIff result (neg_ℤ moment_end ≤ℤ t) t }
     {
+        let (nanos, other) = (self.subsec_nanos(), duration.subsec_nanos());
         let secs = self
             .unix_seconds()
             .checked_sub_unsigned(duration.as_secs())?;
-        let (nanos, other) = (self.subsec_nanos(), duration.subsec_nanos());
         if other <= nanos {
             SystemTime::from_parts(secs, nanos - other)
         } else {
@@ -150,7 +153,6 @@ pub fn next_run(last: SystemTime, every: StdDuration, now: SystemTime) -> Option
 
 /// Returns the first of the times `last + every`, `last + 2 * every` and so on that is not before
 /// `last + gap`, if it is a `SystemTime`.
-#[tactic(auto, using(std::proofs::lemmas::Grind::div_ceil_times, std::proofs::lemmas::Int::ints))]
 fn run_after(last: SystemTime, gap: StdDuration, every: StdDuration) -> Option<SystemTime>
     ensures first { let t = last +ℤ pos every in gap ≡ 0 → SomeIff result (t <ℤ moment_end) t }
     ensures never { 0 < gap → every ≡ 0 → IsNone result }
@@ -167,8 +169,8 @@ fn run_after(last: SystemTime, gap: StdDuration, every: StdDuration) -> Option<S
 }
 
 /// Returns when a job that runs on the first of each month runs next: the first midnight (UTC) that
-/// begins a month, is after `last` and is not before `now`, or `None` if `now` is before 1970 or
-/// after 9999-12-01T00:00:00Z, or if `last` is not before that.
+/// begins a month, is after `last` and is not before `now`, or `None` if that is after the year
+/// 9999, or if `now` is before 1970.
 ///
 /// If the job has not run yet, `last` is the time at which it was added.
 ///
@@ -188,8 +190,8 @@ fn run_after(last: SystemTime, gap: StdDuration, every: StdDuration) -> Option<S
 /// ```
 pub fn next_monthly_run(last: SystemTime, now: SystemTime) -> Option<SystemTime>
     ensures next { IfSome result (IsNextMonthlyRun last now) }
-    ensures within { IsSome result
-        ↔ ((pos 0 ≤ℤ now) × (now ≤ℤ last_month) × (last <ℤ last_month)) }
+    ensures within { IsSome result ↔ ((pos 0 ≤ℤ now)
+        × (now ≤ℤ midnight december_9999) × (last <ℤ midnight december_9999)) }
 {
     let day = month_start(first_midnight(last, now)?)?;
     UNIX_EPOCH.checked_add(StdDuration::from_secs(u64::from(day) * SECONDS_PER_DAY))
@@ -200,9 +202,9 @@ pub fn next_monthly_run(last: SystemTime, now: SystemTime) -> Option<SystemTime>
 #[tactic(auto, using(std::proofs::lemmas::Grind::div_ceil_times, std::proofs::lemmas::Int::ints))]
 fn first_midnight(last: SystemTime, now: SystemTime) -> Option<u128>
     ensures within { IsSome result ↔ (pos 0 ≤ℤ now) }
-    ensures later { IfSome result (λ day. last <ℤ midnight day) }
-    ensures reached { IfSome result (λ day. now ≤ℤ midnight day) }
-    ensures first { (n : ℕ) → last <ℤ midnight n → now ≤ℤ midnight n
+    ensures after_last { IfSome result (λ day. last <ℤ midnight day) }
+    ensures not_before_now { IfSome result (λ day. now ≤ℤ midnight day) }
+    ensures least { (n : ℕ) → last <ℤ midnight n → now ≤ℤ midnight n
         → IfSome result (λ day. day ≤ n) }
 {
     let now = now.duration_since(UNIX_EPOCH).ok()?.as_nanos();
@@ -216,10 +218,10 @@ fn first_midnight(last: SystemTime, now: SystemTime) -> Option<u128>
 /// Returns the first day not before `day` that begins a month, or `None` after 9999-12-01. Days are
 /// counted from 1970-01-01.
 fn month_start(day: u128) -> Option<u32>
-    ensures within { IsSome result ↔ (day ≤ 2_932_866) }
+    ensures within { IsSome result ↔ (day ≤ december_9999) }
     ensures month { IfSome result BeginsMonth }
     ensures from { IfSome result (λ first. day ≤ first) }
-    ensures first { (n : ℕ) → BeginsMonth n → day ≤ n → IfSome result (λ first. first ≤ n) }
+    ensures least { (n : ℕ) → BeginsMonth n → day ≤ n → IfSome result (λ first. first ≤ n) }
 {
     let mut turns = Turns::new();
     let date = date_of_day(u32::try_from(day).ok()?, &mut turns)?;

@@ -1,7 +1,39 @@
-//! The lines with carets of errors of the parsers: of an empty string, and of long lines.
+//! The messages of errors of the parsers, and their lines with carets: of an empty string, and of
+//! long lines.
 
+use humantime_std::Escaped;
 use humantime_std::located::{parse_duration, parse_rfc3339_weak};
 use std::test::Fail;
+
+/// Ranges of characters, among them each that is written as an escape.
+const CHARACTERS: [(u32, u32); 3] = [(0, 0xff), (0x600, 0x6ff), (0x2000, 0x20ff)];
+
+/// Each character in each part of a duration.
+#[test]
+fn no_message_has_a_character_that_is_escaped(rt: HostRuntime) -> Result<(), Fail> {
+    let alloc = rt.alloc();
+    for (first, last) in CHARACTERS {
+        for code in first..=last {
+            let c = char::from_u32(code).ok_or("no character")?;
+            for text in [
+                format!(in alloc; "{c}")?,
+                format!(in alloc; "5{c}")?,
+                format!(in alloc; "5{c}x")?,
+                format!(in alloc; "5.{c}s")?,
+                format!(in alloc; "5x{c}")?,
+                format!(in alloc; "5x{c}x")?,
+                format!(in alloc; "5s {c}")?,
+                format!(in alloc; "5s 5{c}x ")?,
+            ] {
+                if let Err(error) = parse_duration(&text) {
+                    let message = error.to_string(alloc)?;
+                    assert_eq!(rt; Escaped(&message).to_string(alloc)?, message, "{code:x}");
+                }
+            }
+        }
+    }
+    Ok(())
+}
 
 #[test]
 fn an_empty_string_has_a_line(rt: HostRuntime) -> Result<(), Fail> {

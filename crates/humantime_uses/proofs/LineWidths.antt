@@ -14,7 +14,7 @@ use Rattle.std.proofs.lemmas.Str.{IsUtf8-encode, IsUtf8-nil, inside_one, IsUtf8-
 use Rattle.unicode_width.specs.Width.{char_width}
 use Rattle.unicode_width.proofs.Rules.{width_or_zero-le}
 use Rattle.humantime_lines.specs.Carets.{caret_line, columns, is_tab}
-use Rattle.humantime_lines.specs.Escapes.{is_hidden, room, shown}
+use Rattle.humantime_lines.specs.Escapes.{is_escaped, room, escaped_char}
 use Rattle.humantime_uses.specs.CaretColumns.{column_after}
 use Rattle.humantime_uses.proofs.CaretColumns.{column_after_tab, column_of_carets}
 use Rattle.humantime_uses.proofs.Printable.{HasNoTab, IsAscii-printable, IsPrintable}
@@ -80,7 +80,7 @@ abbrev escape : ℕ → List ℕ
 escape c = codes "\\u{" ++ (digits 16 false c ++ codes "}")
 
 -- An escape has at most eight bytes, all printable.
-escape_short : (c : ℕ) → is_hidden c ≡ true → IsShort 8 (escape c)
+escape_short : (c : ℕ) → is_escaped c ≡ true → IsShort 8 (escape c)
 escape_short c hidden =
     let below : c < 0x10000 = grind (arith, nat_tests) in
     let ds = four_digits c below in
@@ -89,12 +89,12 @@ escape_short c hidden =
     (end, omega (arith, ds.1))
 
 -- A shown character has no tab, unless it is one.
-shown_no_tab : (c : ℕ) → c ≢ 9 → HasNoTab (shown c)
+shown_no_tab : (c : ℕ) → c ≢ 9 → HasNoTab (escaped_char c)
 shown_no_tab c other =
     let bs = encode_utf8 c in
     let P = λ (b : ℕ). is_tab b ≡ false in
     let byte = λ (k : ℕ). inside_one c [] bs k (sym (append-nil bs)) in
-    cond_both (is_hidden c) (escape c) bs HasNoTab
+    cond_both (is_escaped c) (escape c) bs HasNoTab
     (λ hidden. printable_no_tab (escape c) (escape_short c hidden).0)
     (λ _. All-from_get_or P bs 0 (λ k inside. grind (arith, nat_tests, byte k inside)))
 
@@ -103,12 +103,12 @@ widest_room : (c : ℕ) → widest c ≤ room c
 widest_room c = grind (arith, width_or_zero-le false c)
 
 -- A shown character takes at most its room.
-shown_takes : (c : ℕ) → IsScalar c → TakesAtMost (room c) (shown c)
+shown_takes : (c : ℕ) → IsScalar c → TakesAtMost (room c) (escaped_char c)
 shown_takes c scalar =
     let bs = encode_utf8 c in
     let whole = ap chars (sym (append-nil bs)) in
     let alone : chars bs ≡ c ∷ [] = whole ∙ chars-encodes (c ∷ []) (rw scalar) in
-    cond_both (is_hidden c) (escape c) bs (TakesAtMost (room c))
+    cond_both (is_escaped c) (escape c) bs (TakesAtMost (room c))
     (λ hidden. rw hidden (takes_short 8 (escape c) (escape_short c hidden)))
     (λ _. record {
       utf8 = IsUtf8-encode c scalar;
@@ -117,20 +117,21 @@ shown_takes c scalar =
 
 -- Shown characters take at most their room.
 all_takes : (cs : List ℕ) → all_scalars cs ≡ true
-    → TakesAtMost (sum_by room cs) (flat_map shown cs)
+    → TakesAtMost (sum_by room cs) (flat_map escaped_char cs)
 all_takes [] scalars = takes_none
 all_takes (c ∷ cs) scalars =
     let parts = and_parts (scalar c) (all_scalars cs) scalars in
     let first = shown_takes c parts.0 in
     let rest = all_takes cs parts.1 in
     rw (sum_by-cons room)
-    (takes_both (room c) (sum_by room cs) (shown c) (flat_map shown cs) first rest)
+    (takes_both (room c) (sum_by room cs) (escaped_char c) (flat_map escaped_char cs) first rest)
 
 module _ (stop : ℕ → ℕ) (near : (x : ℕ) → stop x ≤ x + 8) where
   -- Shown characters after a piece lead at most as far as the piece and their room.
   after_piece : (column most : ℕ) (piece cs : List ℕ)
       → TakesAtMost most piece → HasNoTab piece → all_scalars cs ≡ true
-      → column_after stop column (piece ++ flat_map shown cs) ≤ column + most + sum_by room cs
+      → column_after stop column
+      (piece ++ flat_map escaped_char cs) ≤ column + most + sum_by room cs
   after_piece column most piece [] takes no_tab scalars =
       rw (append-nil, slice_split_none is_tab piece no_tab)
       (omega (arith, columns_within most piece takes))
@@ -140,31 +141,34 @@ module _ (stop : ℕ → ℕ) (near : (x : ℕ) → stop x ≤ x + 8) where
       elim (cases_eq c 9) [
         | inl same ↦
             let rest = after_piece (stop end) 0 [] cs takes_none (All-nil _) parts.1 in
-            let tab = column_after_tab stop column piece (flat_map shown cs) no_tab in
+            let tab = column_after_tab stop column piece (flat_map escaped_char cs) no_tab in
             rw (sum_by-cons room, same, encode_ascii 9 (omega arith), tab)
             (omega (arith, rest, near end, columns_within most piece takes))
         | inr other ↦
-            let grown = piece ++ shown c in
-            let more = takes_both most (room c) piece (shown c) takes (shown_takes c parts.0) in
+            let grown = piece ++ escaped_char c in
+            let more =
+            takes_both most (room c) piece (escaped_char c) takes (shown_takes c parts.0) in
             let last = shown_no_tab c other in
-            let none = All-append (λ b. is_tab b ≡ false) piece (shown c) no_tab last in
+            let none = All-append (λ b. is_tab b ≡ false) piece (escaped_char c) no_tab last in
             let rest = after_piece column (most + room c) grown cs more none parts.1 in
-            rw (← append_assoc piece (shown c), sum_by-cons room) (omega (arith, rest))
+            rw (← append_assoc piece (escaped_char c), sum_by-cons room) (omega (arith, rest))
       ]
 
   -- Shown characters lead at most as far as their room.
   pub column_within : (column : ℕ) (cs : List ℕ) → all_scalars cs ≡ true
-      → column_after stop column (flat_map shown cs) ≤ column + sum_by room cs
+      → column_after stop column (flat_map escaped_char cs) ≤ column + sum_by room cs
   column_within column cs scalars =
       omega (arith, after_piece column 0 [] cs takes_none (All-nil _) scalars)
 
   -- A caret line leads at most as far as the room of its line, and of its part or one caret.
   pub caret_line_within : (column : ℕ) (before part : List ℕ)
       → all_scalars before ≡ true → all_scalars part ≡ true
-      → column_after stop column (caret_line (flat_map shown before) (flat_map shown part))
+      → column_after stop column
+      (caret_line (flat_map escaped_char before) (flat_map escaped_char part))
       ≤ column + sum_by room before + max (sum_by room part) 1
   caret_line_within column before part scalars others =
-      let line = flat_map shown before in
+      let line = flat_map escaped_char before in
       let most = columns_within _ _ (all_takes part others) in
-      let carets = column_of_carets stop column (max (columns (flat_map shown part)) 1) line in
+      let carets =
+      column_of_carets stop column (max (columns (flat_map escaped_char part)) 1) line in
       omega (arith, most, carets, column_within column before scalars)

@@ -5,7 +5,7 @@ use Rattle.std.proofs.lemmas.Grind.{common_steps}
 use Rattle.std.specs.List.{before_first, after_first, position_or_len, AllByRecursion}
 use Rattle.std.proofs.Math.Seq.{drop-append-add, drop-append_seam, take-append_seam}
 use Rattle.std.specs.Char.{is_ascii_whitespace}
-use Rattle.humantime_std.specs.Logs.{after_stamp, stamp_of}
+use Rattle.humantime_std.specs.Logs.{after_stamp, leading_stamp}
 
 -- A tab, a line feed, a form feed, a carriage return and a space are whitespace, and no other byte.
 any_white : (b : ℕ) → is_ascii_whitespace b
@@ -13,7 +13,8 @@ any_white : (b : ℕ) → is_ascii_whitespace b
 any_white b = grind (arith, nat_tests)
 
 -- A line of at most 11 bytes has nothing after its timestamp.
-short_line : (line : List ℕ) → length line ≤ 11 → (stamp_of line ≡ line) × (after_stamp line ≡ [])
+short_line : (line : List ℕ) → length line ≤ 11 → (leading_stamp line ≡ line)
+    × (after_stamp line ≡ [])
 short_line line short = grind (arith, common_steps)
 
 -- ---- a list at the first element that passes a test
@@ -48,7 +49,7 @@ module _ (date time : List ℕ) (none : NonePasses is_ascii_whitespace time) whe
   -- Whitespace in the first 11 bytes does not count. The first one after them is in neither part.
   any_line : (b : ℕ) (rest : List ℕ) → length date ≡ 11 → is_ascii_whitespace b ≡ true
       → let line = date ++ (time ++ b ∷ rest) in
-      (stamp_of line ≡ date ++ time) × (after_stamp line ≡ rest)
+      (leading_stamp line ≡ date ++ time) × (after_stamp line ≡ rest)
   any_line b rest eleven white =
       let parts = split_after 11 (time ++ b ∷ rest) eleven in
       let found = first_passing is_ascii_whitespace time rest b none white in
@@ -56,7 +57,7 @@ module _ (date time : List ℕ) (none : NonePasses is_ascii_whitespace time) whe
 
   -- Without whitespace after 11 bytes, the whole line is the timestamp.
   whole_line : length date ≡ 11 → let line = date ++ time in
-      (stamp_of line ≡ line) × (after_stamp line ≡ [])
+      (leading_stamp line ≡ line) × (after_stamp line ≡ [])
   whole_line eleven =
       let parts = split_after 11 time eleven in
       let found = none_passing is_ascii_whitespace time none in

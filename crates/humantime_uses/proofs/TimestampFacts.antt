@@ -13,7 +13,7 @@ use Rattle.humantime.specs.declared.calendar.Date.{Date}
 use Rattle.humantime.specs.declared.date.error.TimestampError.{TimestampError}
 use Rattle.humantime.specs.declared.date.error.TimestampError.TheVariants.{OutOfRange, InvalidDigit, InvalidFormat}
 use Rattle.humantime.proofs.OnLiterals.{timestamps_on_literals}
-use Rattle.humantime_std.specs.Schedule.{IsDue, IsMonthlyDue, last_month}
+use Rattle.humantime_std.specs.Schedule.{IsDue, IsMonthlyDue, december_9999, midnight}
 
 -- ---- days
 
@@ -183,8 +183,8 @@ any_printed text t =
 any_run : (last now t : ℤ) (every : ℕ) → IsDue last every now t
     ↔ ((now ≤ℤ t) × ((k : ℕ) × (1 ≤ k) × (t ≡ last +ℤ pos (k * every))))
 any_run last now t every = (
-  λ due. (due.reached, (due.periods, due.later, due.at)),
-  λ h. record { periods = h.1.0; later = h.1.1; at = h.1.2; reached = h.0 },
+  λ due. (due.not_before_now, (due.periods, due.one_or_more, due.at)),
+  λ h. record { periods = h.1.0; one_or_more = h.1.1; at = h.1.2; not_before_now = h.0 },
 )
 
 -- ---- monthly runs, at the midnight of the first of a month, after the last and not before now
@@ -196,16 +196,16 @@ any_monthly_run last now t = (
   λ due.
       let month = due.month in
       let at : t ≡ pos (day_of month.date * 86_400_000_000_000) = rw month.counted due.at in
-      (due.later, due.reached, (month.date, month.exists, month.first, at)),
+      (due.after_last, due.not_before_now, (month.date, month.exists, month.first, at)),
   λ h. record {
     day = day_of h.2.0;
     month = record { date = h.2.0; exists = h.2.1; counted = refl; first = h.2.2 };
     at = h.2.3;
-    later = h.0;
-    reached = h.1;
+    after_last = h.0;
+    not_before_now = h.1;
   },
 )
 
 -- The last one can be on the first of December 9999.
-last_monthly_run : last_month ≡ pos 253_399_622_400_000_000_000
+last_monthly_run : midnight december_9999 ≡ pos 253_399_622_400_000_000_000
 last_monthly_run = refl

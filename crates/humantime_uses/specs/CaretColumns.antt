@@ -8,7 +8,7 @@ use Rattle.std.specs.Str.Lines.{lines}
 use Rattle.humantime.specs.declared.date.error.TimestampError.{TimestampError}
 use Rattle.humantime_lines.specs.Carets.{columns}
 use Rattle.humantime_std.specs.declared.located.Located.{Located}
-use Rattle.humantime_lines.specs.Escapes.{escaped, shown}
+use Rattle.humantime_lines.specs.Escapes.{escaped, escaped_char}
 
 -- Returns the column after pieces of a line with a tab between each two. The line begins in a
 -- column, and a tab leads from a column to that of the next tab stop.
@@ -63,7 +63,7 @@ pub record ShowsLine (before part after line carets : List ℕ) : Type 0 where
   pub start : ShowsStart (escaped part ++ escaped after) (wrong ++ back)
   pub of_part : (cut : List ℕ) × (escaped part ≡ wrong ++ cut)
   pub first : (c : ℕ) (cs : List ℕ) → chars part ≡ c ∷ cs
-      → (more : List ℕ) × (wrong ≡ shown c ++ more)
+      → (more : List ℕ) × (wrong ≡ escaped_char c ++ more)
   pub under : StandsUnder front wrong carets
   pub line_narrow : IsNarrow line
   pub carets_narrow : IsNarrow carets

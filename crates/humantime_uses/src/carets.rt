@@ -18,7 +18,6 @@ pub type Lines = Result<String, AllocError>;
 
 /// Returns the report of an error of any parser: what is wrong, the line, and below it carets under
 /// the bytes of a range.
-#[tactic(auto, using(crate::proofs::ShownLines::shows_range))]
 pub fn lines_at<E: Display + Drop>(
     alloc: Global,
     text: &str,
@@ -34,7 +33,6 @@ pub fn lines_at<E: Display + Drop>(
 
 /// Returns the report of an error, if there is one: what is wrong, the line, and below it carets
 /// under the bytes of the error.
-#[tactic(auto, using(crate::proofs::ShownLines::shows_range))]
 fn lines_of<T: Drop, E: Display + Drop>(
     alloc: Global,
     text: &str,

@@ -26,7 +26,6 @@ pub fn is_rest(duration: StdDuration, other: StdDuration, rest: StdDuration) -> 
 
 /// Returns `true` if a time minus a duration is `earlier`: if `earlier` plus the duration is the
 /// time.
-#[tactic(auto, using(std::proofs::lemmas::Int::ints))]
 pub fn is_earlier(time: SystemTime, duration: StdDuration, earlier: SystemTime) -> bool
     ensures { IsTrue result ↔ (time ≡ earlier +ℤ pos duration) }
 {
@@ -157,9 +156,9 @@ pub fn offset_of_error(error: &DurationError<'_>) -> Option<usize>
 /// Returns the range of the error of a duration, or `None` if there is no error.
 pub fn wrong_range(text: &str) -> Option<(usize, usize)>
     ensures none { IsNone result ↔ IsOk (duration_answer (chars text.now)) }
-    ensures place { (e : Fault) → duration_answer (chars text.now) ≡ Err e
+    ensures range { (e : Fault) → duration_answer (chars text.now) ≡ Err e
         → IfSome result (λ range. IsFaultRange text.now e range.0 range.1) }
-    ensures range { IfSome result (λ range. IsRangeIn text.now range.0 range.1) }
+    ensures boundaries { IfSome result (λ range. IsRangeIn text.now range.0 range.1) }
 {
     let error = located::parse_duration(text).err()?;
     Some((error.start, error.end))

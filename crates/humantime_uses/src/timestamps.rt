@@ -5,7 +5,7 @@ ghost use Rattle.std.specs.Prelude.{IsNone};
 ghost use Rattle.std.specs.Ordering.{int_cmp};
 ghost use Rattle.humantime.specs.declared.TimestampError.{TimestampError};
 ghost use Rattle.humantime.specs.Prelude.{weak_answer, strict_answer, IsPrinted, IsPrintedWith, IsPrintable, cut, places_of, printed_text};
-ghost use Rattle.humantime_std.specs.Logs.{after_stamp, stamp_of};
+ghost use Rattle.humantime_std.specs.Logs.{after_stamp, leading_stamp};
 
 use humantime::{
     Rfc3339Timestamp, SystemTime, TimestampError, format_rfc3339, format_rfc3339_micros,
@@ -112,10 +112,12 @@ pub fn sortable_stamp<'b>(
 /// Returns what follows the timestamp of a line, or `None` if it has none or its time is before
 /// `from`.
 pub fn message_since(line: &str, from: SystemTime) -> Option<&str>
-    ensures kept { (t : ℤ) → weak_answer (stamp_of line.now) ≡ Ok t → from ≤ℤ t
+    ensures kept { (t : ℤ) → weak_answer (leading_stamp line.now) ≡ Ok t → from ≤ℤ t
         → IsSomeAnd result (λ rest. rest.now ≡ after_stamp line.now) }
-    ensures early { (t : ℤ) → weak_answer (stamp_of line.now) ≡ Ok t → t <ℤ from → IsNone result }
-    ensures other { (e : TimestampError) → weak_answer (stamp_of line.now) ≡ Err e → IsNone result }
+    ensures early { (t : ℤ) → weak_answer (leading_stamp line.now) ≡ Ok t → t <ℤ from
+        → IsNone result }
+    ensures other { (e : TimestampError) → weak_answer (leading_stamp line.now) ≡ Err e
+        → IsNone result }
 {
     match split_leading_time(line) {
         Some((time, rest)) if from <= time => Some(rest),

@@ -19,4 +19,4 @@ returns c =
     let place : OverflowsAt (chars c.args.text.now) c.loop-low.start c.unwrap_or.result =
     rw (c.loop-low.invariant.start, c.unwrap_or.ensures) (overflows_after _ _ _ _ c.utf8.text
     c.requires c.loop-low.invariant.fit beyond c.span_end.ensures (omega arith)) in
-    record { place = place; range = overflow_inside _ _ _ c.utf8.text place }
+    record { range = place; boundaries = overflow_inside _ _ _ c.utf8.text place }

@@ -19,5 +19,5 @@ returns c =
       within = found.within;
       month = found.month;
       from = found.from;
-      first = found.first;
+      least = found.least;
     }

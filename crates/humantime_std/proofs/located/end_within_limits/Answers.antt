@@ -1,6 +1,6 @@
 use Rattle.std.proofs.Common.{arith}
 use Rattle.humantime_std.proofs.Overflows.{front_decides}
-use Rattle.humantime_std.proofs.located.fitting_end.Goals as goal
+use Rattle.humantime_std.proofs.located.end_within_limits.Goals as goal
 
 pub split_at-requires-2 : goal.split_at-requires-2
 split_at-requires-2 c =
