@@ -63,7 +63,6 @@ pub fn value_of<'a, T, E: Display + Drop, F: FnOnce(&'a str) -> Result<T, Locate
 /// let since = humantime_clap::optional_value_of(rt.alloc(), command, &matches, "since", parse)?;
 /// assert_eq!(rt; since.map(|time| time.unix_seconds()), Some(1));
 /// ```
-#[tactic(auto, using(crate::proofs::Leaves::unbuilt))]
 pub fn optional_value_of<'a, T, E: Display + Drop, F: FnOnce(&'a str) -> Result<T, Located<E>>>(
     alloc: Global,
     command: &mut Command<'_>,
