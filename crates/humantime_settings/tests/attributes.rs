@@ -1,6 +1,6 @@
 //! Wrong values below each attribute of `serde`, in TOML and in JSON.
 
-use crate::support::{Row, Wait, assert_errors, reads};
+use crate::support::{Row, UNITS, Wait, assert_errors, reads};
 use humantime::{StdDuration, SystemTime};
 use humantime_settings::AsText;
 use serde::Deserialize;
@@ -608,10 +608,7 @@ const NAMES: &[(&str, &str)] = &[
     ("KINDS", "`one_time`, `never`, `many times`"),
     ("VARIANTS", "`One`, `Many`, `Named`, `Nothing`"),
     ("MODES", "`full-speed`, `slow-down`, `turned-off`"),
-    (
-        "UNITS",
-        "supported units: ns, us/µs, ms, sec, min, hours, days, weeks, months, years (and few variations)",
-    ),
+    UNITS,
     ("LONG", "«k*70».«k*30»"),
 ];
 

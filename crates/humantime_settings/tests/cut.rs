@@ -1,6 +1,6 @@
 //! Documents that are cut at each byte, and keys of many parts.
 
-use crate::support::{Read, assert_errors, reads};
+use crate::support::{Read, assert_errors, assert_read, reads};
 use crate::types::Config;
 use humantime_settings::SettingsError;
 use std::process::Abort;
@@ -55,8 +55,7 @@ fn assert_within(rt: &(impl Abort + AllocGlobal), read: Read, text: &str) -> Res
 #[test]
 fn documents_are_cut_at_each_byte(rt: HostRuntime) -> Result<(), Fail> {
     for (document, read) in WHOLE.iter().zip(reads!(Config).iter().rev()) {
-        let error = read(rt.alloc(), document);
-        assert!(rt; error.is_none(), "{error:?}");
+        assert_read(&rt, *read, document);
         for (at, _) in document.char_indices() {
             assert_within(&rt, *read, &document[..at])?;
             assert_within(&rt, *read, &document[at..])?;

@@ -1,7 +1,9 @@
 //! Documents with errors, in JSON and in TOML.
 
 use crate::drawn::Table;
-use crate::support::{Row, Wait, assert_errors, difference, filled, reader, reads};
+use crate::support::{
+    Row, UNITS, Wait, assert_errors, assert_read, difference, filled, reader, reads,
+};
 use humantime::{Duration, StdDuration, SystemTime, Timestamp};
 use humantime_settings::{AsText, SettingsError};
 use serde::Deserialize;
@@ -54,11 +56,7 @@ const NAMES: &[(&str, &str)] = &[
         "OBJECT",
         r#"{"name": "é ", "every": "5us", "since": "2018-02-14T00:28:07Z"}"#,
     ),
-    (
-        "UNITS",
-        "supported units: ns, us/µs, ms, sec, min, hours, days, weeks, months, years (and few \
-        variations)",
-    ),
+    UNITS,
     (
         "PRECISION",
         "a lack of precision (values below 1ns are not supported)",
@@ -599,6 +597,9 @@ const OF_KEYS: &[Row<'static>] = &[
             "texts = { '$__toml_private_datetime' = '1^~^' }",
             r#"texts = { "a\nin `b" = '1^~^' }"#,
             "texts = { '1~' = '1^~^' }",
+            "texts.'' = '1^~^'",
+            "texts = { a = '1s', \"\" = '1^~^', b = '1s' }",
+            "[[mixed]]\n[[numbers]]\n[texts]\n'' = '1^~^'\n",
             "waits = { '1^~^' = '1~' }",
             "waits = { '1~' = '1s', '1s' = '1^~^' }",
             "numbers = [{ 5 = '1s' }, { 5 = '1^~^' }]",
@@ -641,6 +642,8 @@ const OF_KEYS: &[Row<'static>] = &[
             "^wait.x = 1\nwait.y = 2\n",
             "[^wait.x]\n",
             "part.^every.x = 1\n",
+            "[texts]\n^''.'' = '1s'\n",
+            "^[texts.\"\"]\n",
             "[[outers]]\npart.every = ^5\n[[outers]]\n[outers.part.every]\n",
             "mode = { Fast = {} }\nwait = ^5",
             "[[numbers]]\n007 = '1s'\n[[numbers]]\n007 = ^5",
@@ -766,10 +769,7 @@ fn errors_of_documents(rt: HostRuntime) -> Result<(), Fail> {
         .filter(|document| document.contains('~'))
     {
         let right = filled(&rt, document, &[("^~^", "s")])?;
-        assert!(rt;
-            reader(reads!(Table), &right)(rt.alloc(), &right).is_none(),
-            "{document}"
-        );
+        assert_read(&rt, reader(reads!(Table), &right), &right);
     }
     Ok(())
 }

@@ -1,7 +1,7 @@
 //! Fixed and drawn documents with at most one error each: it is found where it was put.
 
 use crate::config_parts::{self, Parts};
-use crate::support::{Read, Wait, difference, filled, reads};
+use crate::support::{Random, Read, UNITS, Wait, assert_read, difference, filled, reads};
 use crate::types::Config;
 use humantime::SystemTime;
 use humantime_settings::AsText;
@@ -532,11 +532,7 @@ const PLACES: [(&str, &str, &str); 5] = [
 
 /// What names in messages stand for.
 const NAMES: &[(&str, &str)] = &[
-    (
-        "UNITS",
-        "supported units: ns, us/µs, ms, sec, min, hours, days, weeks, months, years (and few \
-         variations)",
-    ),
+    UNITS,
     ("JOB", "expected `max-age` or `count`"),
     (
         "ACTIONS",
@@ -552,7 +548,7 @@ const NAMES: &[(&str, &str)] = &[
 /// A document that is drawn.
 #[derive(Drop)]
 struct Draw<'a> {
-    state: u64,
+    random: Random,
     is_json: bool,
     /// An error begins and ends at `^`.
     text: String,
@@ -563,14 +559,6 @@ struct Draw<'a> {
 }
 
 impl<'a> Draw<'a> {
-    /// Returns a number below another one.
-    fn below(&mut self, end: usize) -> usize {
-        self.state ^= self.state << 13;
-        self.state ^= self.state >> 7;
-        self.state ^= self.state << 17;
-        ((self.state >> 8) % end as u64) as usize
-    }
-
     /// Puts a text with what names in it stand for.
     fn put(&mut self, text: &'a str) -> Result<(), AllocError> {
         for part in text.split('>') {
@@ -605,14 +593,17 @@ impl<'a> Draw<'a> {
 
     /// Returns one of the texts of a name, or the name.
     fn one_of<'b>(&mut self, tables: &[&[Parts]; 3], name: &'b str) -> &'b str {
-        texts(tables, self.is_json, name).map_or(name, |texts| texts[self.below(texts.len())])
+        texts(tables, self.is_json, name).map_or(
+            name,
+            |texts| texts[self.random.below(texts.len())],
+        )
     }
 
     /// Puts a key in quotes, which can have an escape, or in TOML also in single quotes or bare.
     fn put_key(&mut self, key: &str) -> Result<(), AllocError> {
         let alloc = *self.text.allocator();
         let is_bare = key.bytes().all(|byte| byte.is_ascii_lowercase());
-        let key = match self.below(if self.is_json { 2 } else { 5 }) {
+        let key = match self.random.below(if self.is_json { 2 } else { 5 }) {
             0 => format!(in alloc; "\"{key}\"")?,
             1 => format!(in alloc; "\"\\u{:04x}{}\"", key.as_bytes()[0], &key[1..])?,
             2 if is_bare => format!(in alloc; "{key}")?,
@@ -631,7 +622,7 @@ impl<'a> Draw<'a> {
             if is_long && !is_literal {
                 self.put_blank(c)?;
             }
-            let is_plain = is_literal || c == '\n' && is_long && self.below(2) == 0;
+            let is_plain = is_literal || c == '\n' && is_long && self.random.below(2) == 0;
             let plain = &text[at..at + c.len_utf8()];
             let way = match c {
                 '\r' | '\n' if is_plain && !is_long => " ",
@@ -648,7 +639,7 @@ impl<'a> Draw<'a> {
     /// and a mark begins behind it.
     fn put_blank(&mut self, c: char) -> Result<(), AllocError> {
         let is_marked = self.text.ends_with('^') || c == '^' && self.text.contains('^');
-        if is_marked || matches!(c, ' ' | '\t' | '\n') || self.below(6) > 0 {
+        if is_marked || matches!(c, ' ' | '\t' | '\n') || self.random.below(6) > 0 {
             return Ok(());
         }
         let blank = self.one_of(&GRAMMAR, "break");
@@ -665,9 +656,9 @@ fn is_wrong(
     (kind, wrong): ((&str, &str, &str), usize),
     text: &str,
 ) -> Result<bool, Fail> {
-    let (state, alloc) = ((seed + 1) * 0x9E37_79B9, rt.alloc());
+    let alloc = rt.alloc();
     let mut draw = Draw {
-        state,
+        random: Random::new(seed),
         is_json,
         text: String::new(alloc),
         kind,
@@ -676,8 +667,7 @@ fn is_wrong(
     draw.put(text)?;
     let read = reads[is_json as usize];
     if !draw.text.contains('^') {
-        let error = read(alloc, &draw.text);
-        assert!(rt; error.is_none(), "{error:?} {}", draw.text);
+        assert_read(rt, read, &draw.text);
         return Ok(false);
     }
     let message = filled(rt, draw.kind.2, NAMES)?;

@@ -1,7 +1,8 @@
 //! The first error of each document: its place, and the words of `serde`.
 
 use crate::support::{Row, assert_errors, reads};
-use crate::types::Config;
+use crate::types::{Config, Written};
+use humantime_settings::{from_json, from_toml};
 use std::test::Fail;
 
 /// A key twice, whose second value is wrong, too, where a function reads the field.
@@ -294,6 +295,21 @@ const VALUES_REJECTED_AFTER_READING: &[Row<'static>] = &[
         ],
     ),
     (
+        "not a number",
+        &[
+            "{\"small\":1,\n \"written\":^\"7x\",\n \"word\":\"a\"}",
+            "{\n\"written\":^\"\"}",
+            "{\"all-written\":[\"70\",\n^\"7x\",\n\"\"]}",
+            "small = 1\nwritten = ^'7x'\nword = 'a'\n",
+            "small = 1\nwritten = ^''\n",
+            "all-written = ['70',\n  ^'7x',\n  '']\n",
+        ],
+    ),
+    (
+        "invalid type: integer `70`, expected a string",
+        &["{\n\"written\":\n^70\n}", "small = 1\nwritten = ^70\n"],
+    ),
+    (
         "it is loud at line 7, or at line 8",
         &[r#"{"silent":^"loud"}"#, "silent = ^'loud'"],
     ),
@@ -424,6 +440,9 @@ fn values_that_are_looked_at(rt: HostRuntime) -> Result<(), Fail> {
 
 #[test]
 fn values_rejected_after_reading(rt: HostRuntime) -> Result<(), Fail> {
+    assert_eq!(rt; from_json::<Written>(rt.alloc(), "\n\"70\"")?.0, 70);
+    let config: Config = from_toml(rt.alloc(), "\nwritten = '70'")?;
+    assert_eq!(rt; config.written.as_ref().map(|number| number.0), Some(70));
     assert_errors(&rt, reads!(Config), &[], VALUES_REJECTED_AFTER_READING)
 }
 

@@ -1,6 +1,6 @@
 //! What is printed of errors in documents that contain characters which control a terminal.
 
-use crate::support::{Wait, reads};
+use crate::support::{Random, Wait, reads};
 use humantime_settings::SettingsError;
 use humantime_std::Located;
 use std::process::Abort;
@@ -107,28 +107,35 @@ fn assert_shows(
     panic!(rt; "{printed:?} of {text:?}, {start}..{end}")
 }
 
+/// Asserts that what is printed of an error ends with the line and the carets of what is wrong in
+/// the document, and returns it.
+fn assert_shown(
+    rt: &(impl Abort + AllocGlobal),
+    error: &SettingsError,
+    document: &str,
+) -> Result<String, Fail> {
+    let SettingsError::At { offset, part, .. } = error else {
+        panic!(rt; "{error:?}");
+    };
+    let shown = error.to_string(rt.alloc())?;
+    assert_shows(rt, &shown, "", (document, *offset, offset + part.len()))?;
+    Ok(shown)
+}
+
 /// The characters of which drawn strings are made, the others more often than those that are
 /// hidden.
 const OTHERS: [char; 14] = [
     '5', ' ', 's', '~', '\t', '-', 'x', '中', 'é', '\u{301}', '😀', '\u{feff}', '\'', '"',
 ];
 
-/// Returns the next number of a generator.
-fn draw(state: &mut u64, below: usize) -> usize {
-    *state = state
-        .wrapping_mul(6_364_136_223_846_793_005)
-        .wrapping_add(1_442_695_040_888_963_407);
-    (*state >> 33) as usize % below
-}
-
-fn drawn_text(rt: &impl AllocGlobal, state: &mut u64) -> Result<String, Fail> {
+fn drawn_text(rt: &impl AllocGlobal, random: &mut Random) -> Result<String, Fail> {
     let mut text = String::new(rt.alloc());
-    for _ in 0..[3, 10, 40, 120, 300][draw(state, 5)] {
-        let (first, last) = HIDDEN[draw(state, HIDDEN.len())];
-        let hidden = first + draw(state, (last - first + 1) as usize) as u32;
-        let c = match draw(state, 4) {
+    for _ in 0..[3, 10, 40, 120, 300][random.below(5)] {
+        let (first, last) = HIDDEN[random.below(HIDDEN.len())];
+        let hidden = first + random.below((last - first + 1) as usize) as u32;
+        let c = match random.below(4) {
             0 => char::from_u32(hidden).ok_or("no character")?,
-            _ => OTHERS[draw(state, OTHERS.len())],
+            _ => OTHERS[random.below(OTHERS.len())],
         };
         text.push(c)?;
     }
@@ -137,13 +144,10 @@ fn drawn_text(rt: &impl AllocGlobal, state: &mut u64) -> Result<String, Fail> {
 
 #[test]
 fn drawn_strings_are_shown(rt: HostRuntime) -> Result<(), Fail> {
-    let mut state = 1;
+    let mut random = Random::new(0);
     for _ in 0..2000 {
-        let text = drawn_text(&rt, &mut state)?;
-        let (first, second) = (
-            draw(&mut state, text.len() + 1),
-            draw(&mut state, text.len() + 1),
-        );
+        let text = drawn_text(&rt, &mut random)?;
+        let (first, second) = (random.below(text.len() + 1), random.below(text.len() + 1));
         let start = text.floor_char_boundary(first.min(second));
         let end = text.floor_char_boundary(first.max(second));
         let report = Located {
@@ -158,13 +162,9 @@ fn drawn_strings_are_shown(rt: HostRuntime) -> Result<(), Fail> {
             let Some(error) = read(rt.alloc(), &text) else {
                 continue
             };
-            let SettingsError::At { offset, part, .. } = &error else {
-                panic!(rt; "{error:?}");
-            };
-            let shown = error.to_string(rt.alloc())?;
+            let shown = assert_shown(&rt, &error, &text)?;
             let (message, _) = shown.split_once('\n').ok_or("one line")?;
             assert!(rt; !message.chars().any(is_escaped), "{shown:?}");
-            assert_shows(&rt, &shown, "", (&text, *offset, offset + part.len()))?;
         }
     }
     Ok(())
@@ -186,11 +186,7 @@ fn each_hidden_character_is_an_escape(rt: HostRuntime) -> Result<(), Fail> {
             ] {
                 for read in reads!(Wait) {
                     let error = read(alloc, &document).ok_or("read")?;
-                    let SettingsError::At { offset, part, .. } = &error else {
-                        panic!(rt; "{error:?}");
-                    };
-                    let shown = error.to_string(alloc)?;
-                    assert_shows(&rt, &shown, "", (&document, *offset, offset + part.len()))?;
+                    let shown = assert_shown(&rt, &error, &document)?;
                     // A line feed ends the line, and a carriage return before none does not.
                     assert!(rt; code == 10 || shown.contains(escape.as_str()), "{shown:?}");
                 }

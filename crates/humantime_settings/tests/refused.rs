@@ -140,3 +140,15 @@ fn names(rt: HostRuntime) {
         ],
     );
 }
+
+#[test]
+fn keys_in_toml(rt: HostRuntime) {
+    let duplicate = "line 2, column 3: duplicate key\na.b = 2\n  ^";
+    assert_answers(&rt, &[(toml_to_json, "a.b = 1\na.b = 2", duplicate)]);
+}
+
+#[test]
+fn times_in_toml(rt: HostRuntime) {
+    let more = "line 1, column 7: unexpected key or value, expected newline, `#`\na = 1 2\n      ^";
+    assert_answers(&rt, &[(toml_to_json, "a = 1 2", more)]);
+}

@@ -24,6 +24,13 @@ macro_rules! reads {
 
 pub(crate) use reads;
 
+/// How the message of an unknown unit ends.
+pub(crate) const UNITS: (&str, &str) = (
+    "UNITS",
+    "supported units: ns, us/µs, ms, sec, min, hours, days, weeks, months, years (and few \
+    variations)",
+);
+
 /// A message, and documents with this error. It begins at `^`, and ends at a second one, if its end
 /// is known.
 pub(crate) type Row<'a> = (&'a str, &'a [&'a str]);
@@ -58,6 +65,12 @@ pub(crate) fn reader([toml, json]: [Read; 2], document: &str) -> Read {
     } else {
         toml
     }
+}
+
+/// Asserts that a document is read.
+pub(crate) fn assert_read(rt: &(impl Abort + AllocGlobal), read: Read, document: &str) {
+    let error = read(rt.alloc(), document);
+    assert!(rt; error.is_none(), "{error:?} {document}");
 }
 
 /// Asserts that each document has its error, and names all that have another one.
@@ -127,4 +140,27 @@ pub(crate) fn difference(
         return Ok(String::new(alloc));
     }
     Ok(format!(in alloc; "\n{document}\n  is:     {found}\n  wanted: {wanted}\n")?)
+}
+
+/// A generator of numbers.
+#[derive(Drop)]
+pub(crate) struct Random {
+    state: u64,
+}
+
+impl Random {
+    /// Creates a generator, whose numbers depend on a seed below 2^32 + 2^31.
+    pub(crate) fn new(seed: u64) -> Random {
+        Random {
+            state: (seed + 1) * 0x9E37_79B9,
+        }
+    }
+
+    /// Returns the next number, which is below another one.
+    pub(crate) fn below(&mut self, end: usize) -> usize {
+        self.state ^= self.state << 13;
+        self.state ^= self.state >> 7;
+        self.state ^= self.state << 17;
+        ((self.state >> 8) % end as u64) as usize
+    }
 }

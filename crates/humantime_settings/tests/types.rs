@@ -29,6 +29,8 @@ pub(crate) struct Config {
     pub assigned: Option<Assigned>,
     pub list: Option<Vec<Assigned>>,
     pub few: Option<Few>,
+    pub written: Option<Written>,
+    pub all_written: Option<Vec<Written>>,
     pub silent: Option<Silent>,
     pub share: Option<Share>,
     pub totals: Option<Totals>,
@@ -252,6 +254,22 @@ fn read_few<F: Format>(
         return Err(from.invalid());
     }
     Ok(few)
+}
+
+/// A number that is written as a string.
+#[derive(Debug, Drop)]
+pub(crate) struct Written(pub u64);
+
+by_hand!(Written, read_written);
+
+fn read_written<F: Format>(
+    alloc: Global,
+    from: &mut Deserializer<'_, '_, F>,
+) -> Result<Written, F::Error> {
+    match from.string(alloc)?.parse() {
+        Ok(number) => Ok(Written(number)),
+        Err(_) => Err(from.custom("not a number")),
+    }
 }
 
 /// A string that is empty.

@@ -1,13 +1,13 @@
 //! Types with derived impls, under each attribute that changes where or why a value is rejected.
 
 use crate::words::assert_errors;
-use serde::{Deserialize, Deserializer, Format};
+use serde::{Deserialize, Deserializer, Format, Kind};
 use std::alloc::Global;
 use std::test::Fail;
 
 #[derive(Drop, Deserialize)]
 #[serde(rename_all = "kebab-case", deny_unknown_fields)]
-struct Server {
+pub(crate) struct Server {
     #[serde(alias = "label")]
     host_name: String,
     #[serde(default, deserialize_with = "small", alias = "tries")]
@@ -95,11 +95,20 @@ struct Around {
     server: Server,
 }
 
+/// Reads a server, or passes what is no map.
 fn by_hand<'de, F: Format>(
     alloc: Global,
     from: &mut Deserializer<'de, '_, F>,
 ) -> Result<Server, F::Error> {
-    Server::deserialize(alloc, from)
+    if let Kind::Map = from.peek()? {
+        return Server::deserialize(alloc, from);
+    }
+    from.skip()?;
+    Ok(Server {
+        host_name: String::new(alloc),
+        max_tries: 0,
+        is_up: false,
+    })
 }
 
 #[test]
@@ -112,6 +121,7 @@ fn a_key_twice_around_a_key_twice(rt: HostRuntime) -> Result<(), Fail> {
                 &[
                     "{ server: { label: 'a } ^server: { label: 'b label: 'c } }",
                     "{ server: { label: 'a } ^server: { x: 1 } }",
+                    "{ server: 5 ^server: { label: 'b label: 'c } }",
                 ],
             ),
             (
@@ -164,6 +174,38 @@ struct Shared {
     first: Kebab,
     #[serde(flatten)]
     second: Kebab,
+}
+
+/// The second one lacks a field that the first one need not have.
+#[derive(Drop, Deserialize)]
+struct Late {
+    #[serde(flatten)]
+    first: Optional,
+    #[serde(flatten)]
+    second: Kebab,
+}
+
+#[derive(Drop, Deserialize)]
+#[serde(rename_all = "camelCase")]
+struct Optional {
+    max_age: Option<i8>,
+}
+
+/// A field that is not read has the name of another one in the map.
+#[derive(Drop, Deserialize)]
+struct Partly {
+    max_age: i8,
+    #[serde(flatten)]
+    rest: Ageless,
+}
+
+#[derive(Drop, Deserialize)]
+#[serde(rename_all = "camelCase")]
+struct Ageless {
+    #[serde(skip)]
+    max_age: i8,
+    #[serde(default)]
+    tries: i8,
 }
 
 #[test]
@@ -243,6 +285,17 @@ fn one_name_in_a_shared_map(rt: HostRuntime) -> Result<(), Fail> {
     assert_errors::<Shared>(
         &rt,
         &[("missing field `max-age`", &["{ ^}", "{ max-age: 1 ^}"])],
+    )?;
+    assert_errors::<Late>(
+        &rt,
+        &[("missing field `max-age`", &["{ ^}", "{ max_age: 1 ^}"])],
+    )?;
+    assert_errors::<Partly>(
+        &rt,
+        &[(
+            "missing field `max_age`",
+            &["{ ^}", "{ tries: 1 ^}", "{ maxAge: 1 ^}"],
+        )],
     )
 }
 

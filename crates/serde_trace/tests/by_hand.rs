@@ -1,6 +1,7 @@
 //! Types that read by hand.
 
-use crate::words::{assert_errors, read, words_of};
+use crate::attributes::Server;
+use crate::words::{Row, assert_errors, value};
 use serde::{Deserialize, DeserializeOwned, Deserializer, Format, Kind, Name};
 use std::alloc::Global;
 use std::collections::BTreeMap;
@@ -275,6 +276,15 @@ struct Optional {
     a_b: Option<u8>,
 }
 
+/// A map that is rejected for a name that no key stands for.
+#[derive(Drop)]
+struct Down;
+
+by_hand!(Down, alloc, from, {
+    drop(Server::deserialize_owned(alloc, from)?);
+    Err(from.missing("is_up"))
+});
+
 #[derive(Drop, Deserialize)]
 struct Pairs {
     optional: Optional,
@@ -289,7 +299,8 @@ fn a_name_that_another_entry_lacks(rt: HostRuntime) -> Result<(), Fail> {
             "missing field `a_b`",
             &["{ optional: { } pair: ^'missing }"],
         )],
-    )
+    )?;
+    assert_each::<Down>(&rt, "missing field `is_up`", &["{ host-name: 'a ^}"])
 }
 
 /// A sequence of which items are read ahead.
@@ -310,6 +321,176 @@ by_hand!(Ahead, _alloc, from, {
 #[test]
 fn items_that_are_read_ahead(rt: HostRuntime) -> Result<(), Fail> {
     assert_each::<Ahead>(&rt, "ahead", &["[ ^1 2 3 ]", "[ ^[ 1 ] { a: 1 } ]"])
+}
+
+/// A map whose entries after the first one are read ahead.
+#[derive(Drop)]
+struct Rest;
+
+by_hand!(Rest, alloc, from, {
+    from.begin_map()?;
+    if !from.next_entry()? {
+        return Err(from.missing("first"));
+    }
+    drop(from.string(alloc)?);
+    from.skip()?;
+    let start = from.mark();
+    while from.next_entry()? {
+        drop(from.string(alloc)?);
+        from.skip()?;
+    }
+    from.rewind(start);
+    while from.next_entry()? {
+        drop(from.string(alloc)?);
+        drop(One::deserialize_owned(alloc, from)?);
+    }
+    from.release(start);
+    Ok(Rest)
+});
+
+/// A map of two names, whose keys are read ahead.
+#[derive(Drop)]
+struct Keys;
+
+by_hand!(Keys, alloc, from, {
+    let names = [Name::exact("a"), Name::exact("b")];
+    from.begin_map()?;
+    let start = from.mark();
+    while from.next_key(&names)?.is_some() {
+        from.skip()?;
+    }
+    from.rewind(start);
+    while from.next_key(&names)?.is_some() {
+        drop(One::deserialize_owned(alloc, from)?);
+    }
+    from.release(start);
+    Ok(Keys)
+});
+
+/// A map whose first key is read ahead, and which is then rejected.
+#[derive(Drop)]
+struct NoMap;
+
+by_hand!(NoMap, _alloc, from, {
+    let start = from.mark();
+    from.begin_map()?;
+    let _found = from.next_key(&[Name::exact("a")])?;
+    from.rewind(start);
+    from.release(start);
+    Err(from.custom("no map"))
+});
+
+/// A map that is passed, and then read and rejected.
+#[derive(Drop)]
+struct Passed;
+
+by_hand!(Passed, _alloc, from, {
+    let start = from.mark();
+    from.skip()?;
+    from.rewind(start);
+    from.release(start);
+    from.begin_map()?;
+    while from.next_key(&[Name::exact("a"), Name::exact("b")])?.is_some() {
+        from.skip()?;
+    }
+    Err(from.invalid())
+});
+
+#[test]
+fn maps_that_are_read_ahead(rt: HostRuntime) -> Result<(), Fail> {
+    assert_each::<Rest>(
+        &rt,
+        "invalid value: integer `300`, expected an integer in range",
+        &[
+            "{ a: 1 b: { n: ^300 } }",
+            "{ a: [ ] b: { n: 1 } c: { n: ^300 } d: 5 }",
+        ],
+    )?;
+    assert_each::<Rest>(
+        &rt,
+        "invalid type: integer `5`, expected a map",
+        &["{ a: 1 b: ^5 }", "{ a: { } b: { } c: ^5 }"],
+    )?;
+    assert_each::<Rest>(&rt, "missing field `first`", &["{ ^}"])?;
+    assert_each::<Keys>(
+        &rt,
+        "invalid value: integer `300`, expected an integer in range",
+        &[
+            "{ a: { n: ^300 } }",
+            "{ a: { n: 1 } c: { } b: { n: ^300 } a: 5 }",
+        ],
+    )?;
+    assert_each::<NoMap>(&rt, "no map", &["^{ b: 1 }", "^{ a: [ ] }", "^{ }"])?;
+    assert_each::<Passed>(
+        &rt,
+        "invalid value",
+        &["^{ }", "^{ b: 1 }", "^{ c: [ ] a: 1 b: 2 }"],
+    )
+}
+
+/// A character that is first read as a string.
+#[derive(Drop, PartialEq, Eq, PartialOrd, Ord)]
+struct Letter(char);
+
+by_hand!(Letter, alloc, from, {
+    let start = from.mark();
+    drop(from.string(alloc)?);
+    from.rewind(start);
+    from.release(start);
+    match from.char()? {
+        'x' => Err(from.invalid()),
+        letter => Ok(Letter(letter)),
+    }
+});
+
+#[test]
+fn strings_that_are_read_ahead(rt: HostRuntime) -> Result<(), Fail> {
+    let message = "invalid value: string \"ab\", expected a character";
+    assert_each::<Letter>(&rt, message, &["^'ab"])?;
+    assert_each::<Letter>(&rt, "invalid value", &["^'x"])?;
+    assert_errors::<BTreeMap<Letter, u8>>(
+        &rt,
+        &[
+            (message, &["{ ^ab: 1 }", "{ a: 1 ^ab: 'x }"]),
+            ("invalid value", &["{ ^x: 1 }", "{ a: 1 b: 2 ^x: 3 }"]),
+            (
+                "invalid type: string \"x\", expected an integer",
+                &["{ a: ^'x }", "{ a: 1 b: ^'x }"],
+            ),
+        ],
+    )
+}
+
+/// A map that is rejected as if it were an unknown key, after its own keys.
+#[derive(Drop)]
+struct AfterKeys;
+
+by_hand!(AfterKeys, alloc, from, {
+    drop(One::deserialize_owned(alloc, from)?);
+    Err(from.unknown_key())
+});
+
+/// The same, after going back from its first key.
+#[derive(Drop)]
+struct BeforeKeys;
+
+by_hand!(BeforeKeys, _alloc, from, {
+    from.begin_map()?;
+    let start = from.mark();
+    let _found = from.next_key(&[Name::exact("a")])?;
+    from.rewind(start);
+    from.release(start);
+    Err(from.unknown_key())
+});
+
+#[test]
+fn a_map_that_is_rejected_as_a_key(rt: HostRuntime) -> Result<(), Fail> {
+    let rows: &[Row<'_>] = &[("unknown field ``", &["^{ m: 1 }"])];
+    assert_errors::<AfterKeys>(&rt, rows)?;
+    assert_errors::<BeforeKeys>(&rt, rows)?;
+    let rows: &[Row<'_>] = &[("unknown field ``", &["[ ^{ m: 1 } ]"])];
+    assert_errors::<Vec<AfterKeys>>(&rt, rows)?;
+    assert_errors::<Vec<BeforeKeys>>(&rt, rows)
 }
 
 /// An item that begins, but is not read.
@@ -376,11 +557,7 @@ by_hand!(LastWins, alloc, from, {
 
 #[test]
 fn keys_that_may_come_twice(rt: HostRuntime) -> Result<(), Fail> {
-    let words = words_of(
-        rt.alloc(),
-        "{ a: { n: 1 } b: 1 a: { n: 2 } b: 'x b: [ ] a: { } }",
-    )?;
-    assert!(rt; read::<LastWins>(rt.alloc(), &words)?.0.is_ok());
+    let _last: LastWins = value(&rt, "{ a: { n: 1 } b: 1 a: { n: 2 } b: 'x b: [ ] a: { } }")?;
     assert_errors::<LastWins>(
         &rt,
         &[

@@ -95,21 +95,27 @@ fn many_keys_that_come_twice(rt: HostRuntime) -> Result<(), Fail> {
     assert_path::<LastWins>(&rt, &words, Part::Value, &[3 * TIMES])
 }
 
+/// Asserts that the last item of a list is rejected, after many that are such words.
+fn assert_last_item(rt: &(impl Abort + AllocGlobal), item: &[&str]) -> Result<(), Fail> {
+    let mut words = repeated(rt.alloc(), &["{"], &["x:", "1"], &["list:", "["])?;
+    for _ in 0..ITEMS {
+        words.extend_from_slice(item)?;
+    }
+    words.extend_from_slice(&["[", "'Third", "]", "]", "}"])?;
+    assert_path::<Long>(rt, &words, Part::Value, &[TIMES, ITEMS])
+}
+
 #[test]
 fn many_items_with_an_error_each(rt: HostRuntime) -> Result<(), Fail> {
-    let alloc = rt.alloc();
-    for often in [
-        &["{", "a:", "1", "a:", "2", "b:", "1", "}"] as &[&str],
-        &["{", "a:", "1", "kind:", "'Third", "b:", "1", "}"],
-    ] {
-        let mut words = repeated(alloc, &["{"], &["x:", "1"], &["list:", "["])?;
-        for _ in 0..ITEMS {
-            words.extend_from_slice(often)?;
-        }
-        words.extend_from_slice(&["[", "'Third", "]", "]", "}"])?;
-        assert_path::<Long>(&rt, &words, Part::Value, &[TIMES, ITEMS])?;
-    }
-    Ok(())
+    assert_last_item(&rt, &["{", "a:", "1", "a:", "2", "b:", "1", "}"])?;
+    assert_last_item(&rt, &["{", "a:", "1", "kind:", "'Third", "b:", "1", "}"])
+}
+
+#[test]
+fn many_items_that_are_another_variant(rt: HostRuntime) -> Result<(), Fail> {
+    assert_last_item(&rt, &["{", "b:", "1", "}"])?;
+    assert_last_item(&rt, &["{", "a:", "300", "b:", "1", "}"])?;
+    assert_last_item(&rt, &["{", "a:", "1", "kind:", "{", "}", "b:", "1", "}"])
 }
 
 #[test]

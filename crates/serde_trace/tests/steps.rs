@@ -1,19 +1,10 @@
-//! Values that are read, steps that the format has of its own, and long documents.
+//! Values that are read, and steps that the format has of its own.
 
-use crate::words::{Wrong, assert_errors, read, words_of};
-use serde::{Deserialize, DeserializeOwned};
+use crate::words::{Wrong, assert_errors, read, value, words_of};
+use serde::Deserialize;
 use serde_trace::Traced;
 use std::collections::BTreeMap;
-use std::process::Abort;
 use std::test::Fail;
-
-/// Asserts that a document is read to its end, and returns the value.
-fn value<T: DeserializeOwned>(rt: &(impl Abort + AllocGlobal), document: &str) -> Result<T, Fail> {
-    let words = words_of(rt.alloc(), document)?;
-    let (read, end) = read::<T>(rt.alloc(), &words)?;
-    assert_eq!(rt; end, words.len(), "{document}");
-    Ok(read.ok().ok_or("rejected")?)
-}
 
 #[derive(Drop, Deserialize)]
 struct All {
@@ -151,6 +142,10 @@ fn tuples_and_structs_of_the_format(rt: HostRuntime) -> Result<(), Fail> {
                     "[ < one: 1 > < two: ^[ 2 3 4 ] > ]",
                     "[ [ 1 null ] ^[ 1 null { } ] ]",
                 ],
+            ),
+            (
+                "invalid value: integer `256`, expected an integer in range",
+                &["[ { one: ^256 } ]", "[ < one: 1 two: [ 255 ^256 ] > ]"],
             ),
             ("invalid length 1", &["[ < two: ^[ 2 ] > ]"]),
             ("invalid length 0", &["[ < two: ^[ ] > ]"]),

@@ -262,6 +262,17 @@ pub(crate) fn read<T: DeserializeOwned>(
     Ok((read, format.next))
 }
 
+/// Asserts that a document is read to its end, and returns the value.
+pub(crate) fn value<T: DeserializeOwned>(
+    rt: &(impl Abort + AllocGlobal),
+    document: &str,
+) -> Result<T, Fail> {
+    let words = words_of(rt.alloc(), document)?;
+    let (read, end) = read::<T>(rt.alloc(), &words)?;
+    assert_eq!(rt; end, words.len(), "{document}");
+    Ok(read.ok().ok_or("rejected")?)
+}
+
 /// Returns the number of the last word of the value that begins with this one.
 fn end_of(words: &[&str], start: usize) -> usize {
     let mut open = 0_usize;
