@@ -75,11 +75,10 @@ digit_at text at u here =
     grind (arith, nat_tests, (char_at text at u here), (cases_lt (get_or text at 0) 128))
 
 -- Whitespace at an offset is a character of its length.
-pub whitespace_over : (text : List ℕ) (at next : ℕ) → IsUtf8 text → IsCharStartIn text at
-    → 0 < whitespace_len (chars (drop at text))
-    → next ≡ at + whitespace_len (chars (drop at text))
-    → (c : ℕ) × (is_whitespace c ≡ true) × IsCharAt text at c next
-whitespace_over text at next u here some n = let c = char_at text at u here in grind arith
+pub whitespace_over : (text : List ℕ) (at : ℕ) → IsUtf8 text → IsCharStartIn text at
+    → 0 < whitespace_len (chars (drop at text)) → (c : ℕ) × (is_whitespace c ≡ true)
+    × IsCharAt text at c (at + whitespace_len (chars (drop at text)))
+whitespace_over text at u here some = let c = char_at text at u here in grind arith
 
 pub no_whitespace : (cs : List ℕ) → ¬ (0 < whitespace_len cs) → begins is_whitespace cs ≡ false
 no_whitespace cs none = grind (arith, len_utf8_bounds)
@@ -158,11 +157,12 @@ pub whitespace_ends : (text : List ℕ) (at : ℕ) → IsUtf8 text → 0 < lengt
     → IsCharBoundary text at × (may_follow_span (chars text) ≡ true)
     × (chars (drop at text) ≡ after_one_whitespace (chars text))
 whitespace_ends text at u some white n =
-    grind (
-      arith,
-      whitespace_in_number,
-      (whitespace_over text 0 at u (some, IsCharBoundary-start text u)),
-    )
+    grind (arith, whitespace_in_number, (whitespace_over text 0 u (some, IsCharBoundary-start text u)))
+
+pub whitespace_boundary : (text : List ℕ) (at : ℕ) → IsUtf8 text → 0 < length text
+    → 0 < whitespace_len (chars text) → at ≡ 0 + whitespace_len (chars text)
+    → IsCharBoundary text at
+whitespace_boundary text at u some white n = (whitespace_ends text at u some white n).0
 
 -- A space ends a span, and is one byte.
 pub space_ends : (text : List ℕ) → IsUtf8 text → 0 < length text → get_or text 0 0 ≡ 32

@@ -28,11 +28,11 @@ pub read_digit : (text : List ℕ) (at : ℕ) → IsUtf8 text → IsCharStartIn 
 read_digit text at u here d =
     grind (arith, nat_tests, digit_in_number, (ascii_at text at u here), digit_is)
 
-pub read_whitespace : (text : List ℕ) (at next : ℕ) → IsUtf8 text → IsCharStartIn text at
+pub read_whitespace : (text : List ℕ) (at : ℕ) → IsUtf8 text → IsCharStartIn text at
     → 0 < whitespace_len (chars (drop at text))
-    → next ≡ at + whitespace_len (chars (drop at text)) → IsRead text at next []
-read_whitespace text at next u here some n =
-    grind (arith, whitespace_in_number, digit_not_whitespace, (whitespace_over text at next u))
+    → IsRead text at (at + whitespace_len (chars (drop at text))) []
+read_whitespace text at u here some =
+    grind (arith, whitespace_in_number, digit_not_whitespace, (whitespace_over text at u))
 
 -- There is neither a digit nor whitespace at this offset.
 pub stops_here : (text bytes : List ℕ) (at : ℕ) → IsUtf8 text → bytes ≡ text → at < length bytes

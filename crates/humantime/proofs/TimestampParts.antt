@@ -4,7 +4,7 @@ use Rattle.std.proofs.Common.{◌≡◌, ℕ, suc, ◌+◌, ◌*◌, ◌<◌, Li
 use Rattle.std.proofs.Math.Nat.{pow-suc, mul-le-mul_left, div-div-eq-div-mul}
 use Rattle.std.proofs.lemmas.Bool.Decides.{nat_tests}
 use Rattle.std.proofs.lemmas.Grind.{common_steps}
-use Rattle.std.proofs.lemmas.List.{drop_more}
+use Rattle.std.proofs.lemmas.List.{drop_more, take_rest}
 use Rattle.std.proofs.lemmas.Str.{digit_value_digit}
 use Rattle.std.specs.Char.{is_ascii_digit, digit_value}
 use Rattle.std.specs.Int.{IsInRange}
@@ -122,12 +122,12 @@ pub next_place : (k : ℕ) → 100_000_000 / 10 ^ (k + 1) ≡ 100_000_000 / 10 ^
 next_place k = grind (arith, pow-suc 10 k, div-div-eq-div-mul 100_000_000 (10 ^ k) 10)
 
 -- The digit at index `k` is added to `n`.
-pub next_digit : (ds : List ℕ) (k n m u : ℕ) → k < length ds → is_ascii_digit (get_or ds k 0) ≡ true
-    → m ≡ n + u * (get_or ds k 0 - 48)
-    → (add_digits m (u / 10) (drop (k + 1) ds) ≡ add_digits n u (drop k ds))
+pub next_digit : (ds : List ℕ) (k n u : ℕ) → k < length ds → is_ascii_digit (get_or ds k 0) ≡ true
+    → let m = n + u * (get_or ds k 0 - 48) in
+    (add_digits n u (drop k ds) ≡ add_digits m (u / 10) (drop (k + 1) ds))
     × (all_ascii_digits (drop (k + 1) ds) ≡ all_ascii_digits (drop k ds))
     × (n < 1_000_000_000 → n + 10 * u ≤ 1_000_000_000 → (m < 1_000_000_000) × (m + 10 * (u / 10) ≤ 1_000_000_000))
-next_digit ds k n m u some digit added =
+next_digit ds k n u some digit =
     grind (
       arith,
       common_steps,
@@ -140,7 +140,8 @@ next_digit ds k n m u some digit added =
 pub nine_read : (ds : List ℕ) (k n u : ℕ) → k ≡ min (length ds) 9 → u ≡ 100_000_000 / 10 ^ k
     → all_ascii_digits (drop k ds) ≡ all_ascii_digits ds
     → add_digits n u (drop k ds) ≡ add_digits 0 100_000_000 ds
-    → digits_answer ds ≡ (if all_ascii_digits (drop k ds) then Ok n else Err InvalidDigit)
+    → (add_digits n u (drop k ds) ≡ n)
+    × (digits_answer ds ≡ (if all_ascii_digits (drop k ds) then Ok n else Err InvalidDigit))
 nine_read ds k n u end unit digits added =
     grind (arith, common_steps, nat_tests, add_nothing, (nanos_added ds), (digits_from_test ds))
 
@@ -211,6 +212,10 @@ one_zone bytes h =
 
 -- What the test for a zone needs.
 pub ruleset zones = (zero_offset_at_end, nat_tests)
+
+-- What reading the digits of a fraction needs.
+pub ruleset nine_digits =
+    (next_digit, next_place, nine_read, take_rest, common_steps, nat_tests)
 
 -- The definitions of zones and of fractions, opened together.
 unfoldable pub zones_open : ⊤

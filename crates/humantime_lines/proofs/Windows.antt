@@ -80,6 +80,11 @@ chars-push text c utf8 scalar =
     let one = chars_past_char (encode_utf8 c) [] c (IsUtf8-encode c scalar) (sym (append-nil _)) in
     chars-append text (encode_utf8 c) utf8 ∙ ap (λ cs. chars text ++ cs) (rw chars-nil at one)
 
+-- The characters before the last one, and this.
+pub chars_before : (text before : List ℕ) (c : ℕ) → IsUtf8 before → IsScalar c
+    → text ≡ before ++ encode_utf8 c → chars text ≡ chars before ++ c ∷ []
+chars_before text before c utf8 scalar bytes = ap chars bytes ∙ chars-push before c utf8 scalar
+
 -- The longest start of a text is what has been read and the longest start of the rest.
 pub record Started (text rest : List ℕ) (columns left : ℕ) : Type 0 where
   pub front : List ℕ

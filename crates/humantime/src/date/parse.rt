@@ -284,6 +284,7 @@ fn fraction_after_seconds(rest: &[u8]) -> Result<u32, TimestampError>
 ///
 /// The loop runs over the nine decimal places and not over the digits, so that LLVM unrolls it.
 #[inline(always)]
+#[tactic(auto, using(crate::proofs::TimestampParts::nine_digits))]
 fn fraction_nanos(digits: &[u8]) -> Result<u32, TimestampError>
     ensures { result ≡ digits_answer digits.now }
 {

@@ -33,7 +33,7 @@ loop-at-preserved c =
     let i = c.loop-at.invariant in
     record {
       taken = i.taken;
-      read = grind (arith, (read_whitespace _ c.loop-at.at c.in-Some.next c.utf8.text), i.read);
+      read = grind (arith, (read_whitespace _ c.loop-at.at c.utf8.text), i.read);
       digits = i.digits;
       few = omega (arith, i.few);
     }

@@ -26,7 +26,7 @@ loop-at-preserved-then-is_ascii_digit c =
 
 pub loop-at-preserved : goal.loop-at-preserved
 loop-at-preserved c =
-    grind (arith, (read_whitespace c.args.text.now c.loop-at.at c.in-Some.next c.utf8.text))
+    grind (arith, (read_whitespace _ c.loop-at.at c.utf8.text))
 
 pub returns-in_err-value-clause-read : goal.returns-in_err-value-clause-read
 returns-in_err-value-clause-read c =
