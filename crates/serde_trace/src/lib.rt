@@ -1,5 +1,5 @@
-//! Where and why a document does not contain a value, in the words of `serde`: [`Traced`] reads a
-//! value in any of its formats, and a [`Rejection`] says what it has found. It is there for
+//! Where and why a document does not contain a value, in words like those of `serde`: [`Traced`]
+//! reads a value in any of its formats, and a [`Rejection`] says what is wrong. It is there for
 //! `humantime_settings`, and changes with it.
 //!
 //! # Examples

@@ -14,44 +14,44 @@ pub struct Rejection {
 }
 
 impl Rejection {
-    /// Returns what `serde` says of it, where the document has this.
+    /// Returns the message, for a document that has `found` there.
     pub fn message(&self, alloc: Global, found: Unexpected<'_>) -> Result<String, AllocError> {
         let (name, len) = match found {
             Unexpected::Str(text) => (text, 0),
             Unexpected::Seq(len) => ("", len),
             _ => ("", 0),
         };
-        match &self.cause {
+        let (what, expected, more) = match &self.cause {
             Cause::Message(message) if message.is_empty() => {
-                String::from_str(alloc, "invalid value")
+                return String::from_str(alloc, "invalid value");
             }
-            Cause::Message(message) => String::from_str(alloc, message.as_str()),
-            Cause::Missing(key) => format!(in alloc; "missing field `{key}`"),
-            Cause::Duplicate => format!(in alloc; "duplicate field `{name}`"),
-            Cause::UnknownField(expected) => format!(in alloc; "unknown field `{name}`{expected}"),
+            Cause::Message(message) => return String::from_str(alloc, message.as_str()),
+            Cause::Missing(key) => return named(alloc, "missing field", key, ""),
+            Cause::Duplicate => return named(alloc, "duplicate field", name, ""),
+            Cause::UnknownField(expected) => return named(alloc, "unknown field", name, expected),
             Cause::UnknownVariant(expected) => {
-                format!(in alloc; "unknown variant `{name}`{expected}")
+                return named(alloc, "unknown variant", name, expected);
             }
-            Cause::Length => format!(in alloc; "invalid length {len}"),
+            Cause::Length => return format!(in alloc; "invalid length {len}"),
             Cause::Long(size) => {
-                format!(in alloc; "invalid length {len}, expected a tuple of size {size}")
+                return format!(in alloc; "invalid length {len}, expected a tuple of size {size}");
             }
-            Cause::Range => {
-                format!(in alloc; "invalid value: {found}, expected an integer in range")
+            Cause::Range => ("value", "an integer", " in range"),
+            Cause::Expected(Kind::Signed, expected) if found.is(Kind::Signed) => {
+                ("value", expected.as_str(), " in range")
             }
-            Cause::Expected(kind, expected) => {
-                let (what, more) = match (found.is(*kind), kind) {
-                    (true, Kind::Signed) => ("value", " in range"),
-                    (true, _) => ("value", ""),
-                    (false, _) => ("type", ""),
-                };
-                format!(in alloc; "invalid {what}: {found}, expected {expected}{more}")
-            }
-        }
+            Cause::Expected(kind, expected) if found.is(*kind) => ("value", expected.as_str(), ""),
+            Cause::Expected(_, expected) => ("type", expected.as_str(), ""),
+        };
+        format!(in alloc; "invalid {what}: {found}, expected {expected}{more}")
     }
 }
 
-/// What of an entry or an item an error is about.
+fn named(alloc: Global, what: &str, name: &str, more: &str) -> Result<String, AllocError> {
+    format!(in alloc; "{what} `{name}`{more}")
+}
+
+/// The part of an entry or item that an error is about.
 #[derive(Clone, Copy, PartialEq, Eq, Drop)]
 pub enum Part {
     Key,
@@ -63,20 +63,22 @@ pub enum Part {
 /// Why a value is rejected.
 #[derive(Drop)]
 pub enum Cause {
-    /// This is said of it, if anything.
+    /// The type says this, or nothing.
     Message(String),
-    /// Something else is expected: one of this kind, but perhaps not each.
+    /// A value of this kind is expected, of which the type may not contain each.
     Expected(Kind, String),
     /// It is an integer that the type does not contain.
     Range,
     /// This key is missing.
     Missing(String),
     Duplicate,
-    /// What is expected, as it is said after the name of the field or of the variant.
+    /// What is said after the name of the field.
     UnknownField(String),
+    /// What is said after the name of the variant.
     UnknownVariant(String),
-    /// It is a sequence with the wrong number of items, or with more than this.
+    /// A sequence has another number of items.
     Length,
+    /// A tuple of this size has more items.
     Long(usize),
 }
 
@@ -98,7 +100,7 @@ pub enum Unexpected<'a> {
 }
 
 impl Unexpected<'_> {
-    /// Returns whether it is of this kind, of which a type need not contain each value.
+    /// Returns whether it is a value of this kind.
     fn is(self, kind: Kind) -> bool {
         match (kind, self) {
             (Kind::Signed, Unexpected::Integer(_)) => true,

@@ -523,8 +523,22 @@ by_hand!(Integer, _alloc, from, {
     }
 });
 
+/// An integer of a wide type, which is then rejected.
+#[derive(Drop)]
+struct Wide;
+
+by_hand!(Wide, _alloc, from, {
+    from.u128()?;
+    Err(from.invalid())
+});
+
 #[test]
 fn an_invalid_value(rt: HostRuntime) -> Result<(), Fail> {
+    assert_each::<Wide>(
+        &rt,
+        "invalid value: integer `5`, expected an integer in range",
+        &["^5"],
+    )?;
     assert_each::<Item>(
         &rt,
         "invalid value",
