@@ -24,7 +24,7 @@ abbrev pub line_of : SettingsError → Option ℕ
 line_of (At offset line before part after message) = Some line
 line_of _ = None
 
--- The columns of a line: its characters, but for a byte order mark.
+-- The columns of a line: its characters, but for U+FEFF.
 abbrev pub columns : List ℕ → ℕ
 columns line = count_by (λ c. not (c == 65279)) (chars line)
 

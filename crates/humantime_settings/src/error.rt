@@ -75,8 +75,8 @@ impl SettingsError {
         }
     }
 
-    /// Returns the column of the error, in characters from 1, not counting a byte order mark, or
-    /// `None` if it has no position.
+    /// Returns the column of the error, in characters from 1 of which U+FEFF is none, or `None` if
+    /// it has no position.
     ///
     /// # Examples
     ///
@@ -121,8 +121,7 @@ impl SettingsError {
     }
 }
 
-/// Returns the column after the start of a line, in characters from 1, of which a byte order mark
-/// is none.
+/// Returns the column after the start of a line, in characters from 1 of which U+FEFF is none.
 #[tactic(auto, using(std::proofs::lemmas::Str::chars_from_encodes))]
 fn column_after(line: &str) -> usize
     ensures { result ≡ columns line.now + 1 }

@@ -1,7 +1,7 @@
 //! What `humantime` says of a value that is not a duration or a timestamp.
 
 use crate::raw_strings::raw_range;
-use crate::toml_positions::tail;
+use crate::text::tail;
 use humantime_std::located::{Located, parse_duration, parse_rfc3339_weak};
 use serde_trace::{Rejection, Unexpected};
 use std::alloc::{AllocError, Global};
@@ -11,17 +11,18 @@ use std::fmt::{Display, InlineText};
 /// longer.
 pub(crate) type Message = InlineText<80>;
 
-/// Creates an error of which only the start is known.
-pub(crate) fn error_from(start: usize, message: String) -> Located<String> {
-    Located {
-        error: message,
-        start,
-        end: start,
-    }
+/// Creates an error whose end is not known.
+pub(crate) fn error_from(
+    alloc: Global,
+    start: usize,
+    message: &str,
+) -> Result<Located<String>, AllocError> {
+    let (error, end) = (String::from_str(alloc, message)?, start);
+    Ok(Located { error, start, end })
 }
 
 /// Returns the error of what a document has at this offset.
-pub(crate) fn range_at(
+pub(crate) fn value_error(
     alloc: Global,
     document: &str,
     at: usize,
@@ -29,35 +30,22 @@ pub(crate) fn range_at(
     found: Unexpected<'_>,
 ) -> Result<Located<String>, AllocError> {
     let message = rejection.message(alloc, found)?;
-    if let Unexpected::Str(text) = found {
-        if let Some(error) = error_in(alloc, &message, document, at, text)? {
-            return Ok(error);
-        }
-    }
-    Ok(error_from(at, message))
-}
-
-/// Returns the error of the string literal at an offset of a document, if `said` is its message.
-fn error_in(
-    alloc: Global,
-    said: &str,
-    document: &str,
-    at: usize,
-    text: &str,
-) -> Result<Option<Located<String>>, AllocError> {
-    let found = match said_error(alloc, said, parse_duration(text).err())? {
-        None => said_error(alloc, said, parse_rfc3339_weak(text).err())?,
-        found => found,
+    let Unexpected::Str(text) = found else {
+        return error_from(alloc, at, &message);
     };
-    let Some(Located { error, start, end }) = found else {
-        return Ok(None);
+    let whole = match whole_error(alloc, &message, parse_duration(text).err())? {
+        None => whole_error(alloc, &message, parse_rfc3339_weak(text).err())?,
+        whole => whole,
+    };
+    let Some(Located { error, start, end }) = whole else {
+        return error_from(alloc, at, &message);
     };
     let (start, end) = raw_range(tail(document, at), text, start, end);
-    Ok(Some(Located { error, start, end }.after(at)))
+    Ok(Located { error, start, end }.after(at))
 }
 
 /// Returns the error of a string, if `said` is its message.
-fn said_error<E: Display + Drop>(
+fn whole_error<E: Display + Drop>(
     alloc: Global,
     said: &str,
     error: Option<Located<E>>,

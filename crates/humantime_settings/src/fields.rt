@@ -74,7 +74,7 @@ pub fn serialize<T: Field, S: Serializer>(value: &T, out: &mut S) -> Result<(), 
 /// - of `humantime` if the string is no duration or timestamp;
 /// - of the format if there is no list or map, or if an allocation fails.
 ///
-/// The formats cut a message at 80 bytes or less; [`from_json`](crate::from_json) and
+/// The message is cut at 80 bytes, and by some formats sooner; [`from_json`](crate::from_json) and
 /// [`from_toml`](crate::from_toml) have the whole.
 ///
 /// # Examples
@@ -109,7 +109,8 @@ pub fn deserialize<'de, T: Field, F: Format>(
     T::read(alloc, from)
 }
 
-/// A duration or a time, or an `Option`, a `Vec` or a map of these, which settings hold as strings.
+/// A duration or a timestamp, or an `Option`, a `Vec` or a map of these, which settings hold as
+/// strings.
 ///
 /// The types are `StdDuration`, `SystemTime`, `Duration` and `Timestamp` of `humantime`, `Duration`
 /// of std, and `Option`, `Vec` and `BTreeMap` with `String` keys of each. The attribute
@@ -215,7 +216,7 @@ trait Text: Sized + Drop {
         ensures { OnOk result ((t : List ℕ) × IsPrintedAs self.now t × IsParsedFrom self.now t
             × Logs (S.written out.old) (S.written out.new) (text t)) };
 
-    /// The error of a value that is no string, for which JSON has 32 bytes.
+    /// What is said of a value that is no string, in the 32 bytes that `serde_json` keeps.
     const WANTED: &'static str = "expected a duration in quotes";
 
     /// Parses a string, or returns the message of the error.
@@ -223,9 +224,6 @@ trait Text: Sized + Drop {
         ensures value { IfOk result (λ v. IsParsedFrom v text.now) }
         ensures refused { IfErr result (λ _. (v : Self) → ¬ IsParsedFrom v text.now) };
 }
-
-/// The error of a value that is no string, where a timestamp is wanted.
-const WANTS_TIMESTAMP: &str = "expected a timestamp in quotes";
 
 impl<T: Text> Value for T {
     ghost IsWrittenAs = { IsText T.IsPrintedAs };
@@ -395,7 +393,7 @@ impl Text for SystemTime {
 
     ghost IsParsedFrom = { λ m t. weak_answer t ≡ Ok m };
 
-    const WANTED: &'static str = WANTS_TIMESTAMP;
+    const WANTED: &'static str = "expected a timestamp in quotes";
 
     fn write_text<S: Serializer>(&self, out: &mut S) -> Result<(), S::Error> {
         let stamp = format_rfc3339(*self);
@@ -416,7 +414,7 @@ impl Text for Timestamp {
 
     ghost IsParsedFrom = { λ m t. weak_answer t ≡ Ok m };
 
-    const WANTED: &'static str = WANTS_TIMESTAMP;
+    const WANTED: &'static str = "expected a timestamp in quotes";
 
     fn write_text<S: Serializer>(&self, out: &mut S) -> Result<(), S::Error> {
         self.as_ref().write_text(out)

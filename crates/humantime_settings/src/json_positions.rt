@@ -1,7 +1,7 @@
 //! What a JSON document has where a path leads.
 
 use json::{MAX_DEPTH, Reader, Scratch, Token};
-use serde_trace::{Cause, Part, Rejection, Unexpected};
+use serde_trace::{Part, Rejection, Unexpected};
 use std::alloc::AllocError;
 
 /// Returns the offset of what is rejected, and what is there.
@@ -20,11 +20,13 @@ pub(crate) fn found_at<'a>(
         Part::Value => (offset, token) = (reader.offset(), reader.next().unwrap_or(Token::Bad)),
         Part::End => (offset, token) = pass_entries(&mut reader, usize::MAX),
     }
-    let found = match (token, &rejection.cause) {
-        (Token::BeginArray, Cause::Length | Cause::Long(_)) => {
-            Unexpected::Seq(items_left(&mut reader))
-        }
-        _ => described(token),
+    let found = match token {
+        Token::String(text) | Token::Key(text) => Unexpected::Str(text),
+        Token::Number(digits) => Unexpected::Number(digits),
+        Token::Bool(b) => Unexpected::Bool(b),
+        Token::Null => Unexpected::Null,
+        Token::BeginArray => Unexpected::Seq(items_left(&mut reader)),
+        _ => Unexpected::Map,
     };
     Ok((offset, found))
 }
@@ -64,16 +66,4 @@ fn items_left(reader: &mut Reader<'_>) -> usize {
         }
     }
     usize::MAX
-}
-
-/// Describes the value or the key that begins with a token.
-fn described(token: Token<'_>) -> Unexpected<'_> {
-    match token {
-        Token::String(text) | Token::Key(text) => Unexpected::Str(text),
-        Token::Number(digits) => Unexpected::Number(digits),
-        Token::Bool(b) => Unexpected::Bool(b),
-        Token::Null => Unexpected::Null,
-        Token::BeginArray => Unexpected::Seq(0),
-        _ => Unexpected::Map,
-    }
 }

@@ -8,13 +8,14 @@ ghost use Rattle.serde_json.specs.Sent.{AreTokensOf};
 ghost use Rattle.humantime_settings.specs.Positions.{IsErrorIn, line_of};
 
 use crate::error::{SettingsError, error_at};
-use crate::error_range::{error_from, range_at};
+use crate::error_range::{error_from, value_error};
 use crate::json_positions::found_at;
 use crate::json_syntax::syntax_error;
+use crate::text::offset_of;
 use humantime_std::located::Located;
 use json::Scratch;
 use serde::{Deserialize, DeserializeOwned, Deserializer, Format, Serialize};
-use serde_trace::{Rejection, Traced};
+use serde_trace::Traced;
 use std::alloc::{AllocError, Global};
 
 /// Reads settings in JSON.
@@ -22,15 +23,16 @@ use std::alloc::{AllocError, Global};
 /// # Errors
 ///
 /// A document that is not JSON has that error alone; else the error is the first that the type
-/// meets, in the document's order: an enum's tag first, flattened keys last, and missing keys at
-/// the end of their object.
+/// meets, in the document's order, but an enum's tag before the other keys, flattened keys after
+/// them, and a missing key at the end of its object.
 ///
 /// Returns [`SettingsError::At`] for an error in the document. The position is
 ///
-/// - in a string that is no duration or timestamp: what is wrong in it;
+/// - in a string or a key that is no duration or timestamp: what is wrong in it;
 /// - of another wrong value, of an unknown key or of a duplicate one: its start;
 /// - of a missing key: the end of its object;
-/// - of a string that is not JSON: the first byte that no JSON has there.
+/// - of a document that is not JSON: the first byte that no JSON has there, the start of a wrong
+///   word, the byte after the backslash of a wrong escape, or the end of the document.
 ///
 /// Returns [`SettingsError::OutOfMemory`] if an allocation fails.
 ///
@@ -53,13 +55,19 @@ pub fn from_json<T: DeserializeOwned>(alloc: Global, text: &str) -> Result<T, Se
     ensures position { IfErr result (IsErrorIn text.now) }
     ensures positioned { (message : _) → result ≢ Err (SettingsError.WithoutPosition message) }
 {
-    match serde_json::from_str::<Owned<T>>(alloc, text) {
-        Ok(Owned(value)) => Ok(value),
-        Err(error) => {
-            let error = located::<T>(alloc, text, &error)?;
-            Err(error_at(alloc, text, error)?)
-        }
+    if let Ok(Owned(value)) = serde_json::from_str::<Owned<T>>(alloc, text) {
+        return Ok(value);
     }
+    let error = match serde_json::from_str::<Traced<T>>(alloc, text) {
+        Ok(Traced(Ok(value))) => return Ok(value),
+        Ok(Traced(Err(rejection))) => {
+            let mut scratch = Scratch::new(alloc);
+            let (at, found) = found_at(text, &rejection, &mut scratch)?;
+            value_error(alloc, text, at, &rejection, found)?
+        }
+        Err(error) => document_error(alloc, text, &error)?,
+    };
+    Err(error_at(alloc, text, error)?)
 }
 
 /// A value that borrows nothing, as `serde_json` reads it.
@@ -104,8 +112,8 @@ pub fn to_json<T: Serialize>(alloc: Global, value: &T) -> Result<String, Setting
     }
 }
 
-/// Returns the error of a document that `serde_json` rejects with this one.
-fn located<T: DeserializeOwned>(
+/// Returns the error of a document that is not JSON, or has a number that is out of range.
+fn document_error(
     alloc: Global,
     text: &str,
     error: &serde_json::Error,
@@ -114,45 +122,11 @@ fn located<T: DeserializeOwned>(
         return Err(AllocError);
     }
     if let Some((at, message)) = syntax_error(alloc, text)? {
-        return Ok(error_from(at, String::from_str(alloc, message)?));
+        return error_from(alloc, at, message);
     }
-    match serde_json::from_str::<Traced<T>>(alloc, text) {
-        Ok(Traced(Err(rejection))) => rejected(alloc, text, &rejection),
-        Ok(Traced(Ok(_value))) => other_error(alloc, text, error),
-        Err(error) => other_error(alloc, text, &error),
-    }
-}
-
-/// Returns the error of a value.
-fn rejected(
-    alloc: Global,
-    text: &str,
-    rejection: &Rejection,
-) -> Result<Located<String>, AllocError> {
-    let mut scratch = Scratch::new(alloc);
-    let (at, found) = found_at(text, rejection, &mut scratch)?;
-    range_at(alloc, text, at, rejection, found)
-}
-
-/// Returns the error of a document as `serde_json` has it, such as a number that is out of range.
-fn other_error(
-    alloc: Global,
-    text: &str,
-    error: &serde_json::Error,
-) -> Result<Located<String>, AllocError> {
-    if error.is_memory() {
-        return Err(AllocError);
-    }
-    let mut message = error.to_string(alloc)?;
-    message.truncate(message.rfind(" at line ").unwrap_or(message.len()));
-    Ok(error_from(error_offset(text, error), message))
-}
-
-/// Returns the offset of an error, which has a line, from 1, and a column, in bytes from 1.
-fn error_offset(document: &str, error: &serde_json::Error) -> usize {
-    let lines = document
-        .split_inclusive('\n')
-        .take(error.line().saturating_sub(1));
-    let offset = lines.fold(0, |offset: usize, line| offset.saturating_add(line.len()));
-    offset.saturating_add(error.column().saturating_sub(1))
+    let said = error.to_string(alloc)?;
+    let message = said.split(" at line ").next().unwrap_or("");
+    let line = text.splitn(error.line(), '\n').last().unwrap_or("");
+    let at = offset_of(text, line).saturating_add(error.column().saturating_sub(1));
+    error_from(alloc, at, message)
 }

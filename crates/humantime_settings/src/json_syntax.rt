@@ -1,6 +1,6 @@
-//! Where a string stops being JSON, and what is expected there.
+//! Where a document stops being JSON, and what is expected there.
 
-use crate::toml_positions::{offset_of, tail};
+use crate::text::{offset_of, tail};
 use std::alloc::{AllocError, Global};
 use std::fmt::InlineText;
 use toml_parser::text::first;
@@ -20,25 +20,26 @@ enum Next {
     End,
 }
 
-/// The rest of a document that cannot follow, and why, or nothing if more has to follow.
+/// Where a document stops being JSON: the rest from there, and why. If nothing is left, the
+/// document is cut, whatever the reason.
 type Stop<'a> = (&'a str, &'static str);
 
-/// Returns the offset at which a string is not JSON, and why, or `None` if it is JSON with at most
-/// 127 objects and arrays in one another.
+/// Returns the offset at which a document is not JSON, and why, or `None` if it is JSON with at
+/// most 127 objects and arrays in one another.
 pub(crate) fn syntax_error(
     alloc: Global,
     text: &str,
 ) -> Result<Option<(usize, &'static str)>, AllocError> {
-    // For each open object and array, whether it is an object.
-    let mut open: Vec<bool> = Vec::new(alloc);
+    // The brackets that close what is open.
+    let mut open: Vec<u8> = Vec::new(alloc);
     let (mut rest, mut next) = (text, Next::Value);
     for _ in 0..=text.len() {
         rest = rest.trim_start_matches([' ', '\t', '\n', '\r']);
-        let (byte, in_object) = (first(rest), open.last().copied());
-        if let (true, Next::End, None) = (rest.is_empty(), next, in_object) {
+        let (byte, close) = (first(rest), open.last().copied());
+        if rest.is_empty() && close.is_none() && matches!(next, Next::End) {
             break;
         }
-        (rest, next) = match pass(rest, next, in_object) {
+        (rest, next) = match pass(rest, next, close) {
             Ok(_) if open.len() >= 127 && matches!(byte, b'{' | b'[') => {
                 return Ok(Some((offset_of(text, rest), "recursion limit exceeded")));
             }
@@ -47,7 +48,8 @@ pub(crate) fn syntax_error(
             Err((stop, why)) => return Ok(Some((offset_of(text, stop), why))),
         };
         match byte {
-            b'{' | b'[' => open.push(byte == b'{')?,
+            b'{' => open.push(b'}')?,
+            b'[' => open.push(b']')?,
             b'}' | b']' => drop(open.pop()),
             _ => {}
         }
@@ -56,34 +58,34 @@ pub(crate) fn syntax_error(
 }
 
 /// Passes a token. Returns the rest of the document, and what comes next in it.
-fn pass(rest: &str, next: Next, in_object: Option<bool>) -> Result<(&str, Next), Stop<'_>> {
+fn pass(rest: &str, next: Next, close: Option<u8>) -> Result<(&str, Next), Stop<'_>> {
     let (byte, after) = (first(rest), tail(rest, 1));
-    let passed = match (byte, next, in_object) {
+    let passed = match (byte, next, close) {
         (b'"', Next::Key | Next::Entry, _) => (after_string(after)?, Next::Colon),
         (b'"', Next::Value | Next::Item, _) => (after_string(after)?, Next::End),
         (b'-' | b'0'..=b'9', Next::Value | Next::Item, _) => (after_number(rest)?, Next::End),
         (b't' | b'f' | b'n', Next::Value | Next::Item, _) => (after_word(rest)?, Next::End),
         (b'{', Next::Value | Next::Item, _) => (after, Next::Entry),
         (b'[', Next::Value | Next::Item, _) => (after, Next::Item),
-        (b'}', Next::Entry | Next::End, Some(true)) => (after, Next::End),
-        (b']', Next::Item | Next::End, Some(false)) => (after, Next::End),
+        (b'}', Next::Entry | Next::End, Some(b'}')) => (after, Next::End),
+        (b']', Next::Item | Next::End, Some(b']')) => (after, Next::End),
         (b':', Next::Colon, _) => (after, Next::Value),
-        (b',', Next::End, Some(true)) => (after, Next::Key),
-        (b',', Next::End, Some(false)) => (after, Next::Value),
-        _ => return Err((rest, why(byte, next, in_object))),
+        (b',', Next::End, Some(b'}')) => (after, Next::Key),
+        (b',', Next::End, Some(b']')) => (after, Next::Value),
+        _ => return Err((rest, why(byte, next, close))),
     };
     Ok(passed)
 }
 
 /// Returns why this byte cannot follow.
-fn why(byte: u8, next: Next, in_object: Option<bool>) -> &'static str {
-    match (byte, next, in_object) {
-        (b'}' | b']', Next::Key, _) | (b']', Next::Value, Some(false)) => "trailing comma",
+fn why(byte: u8, next: Next, close: Option<u8>) -> &'static str {
+    match (byte, next, close) {
+        (b'}' | b']', Next::Key, _) | (b']', Next::Value, Some(b']')) => "trailing comma",
         (_, Next::Key | Next::Entry, _) => "key must be a string",
         (_, Next::Value | Next::Item, _) => "expected value",
         (_, Next::Colon, _) => "expected `:`",
-        (_, Next::End, Some(true)) => "expected `,` or `}`",
-        (_, Next::End, Some(false)) => "expected `,` or `]`",
+        (_, Next::End, Some(b'}')) => "expected `,` or `}`",
+        (_, Next::End, Some(_)) => "expected `,` or `]`",
         (_, Next::End, None) => "trailing characters",
     }
 }
@@ -106,7 +108,8 @@ fn after_string(content: &str) -> Result<&str, Stop<'_>> {
     rest.strip_prefix('"').ok_or((rest, "invalid string"))
 }
 
-/// Returns whether the document ends in the escape at the front.
+/// Returns whether the escape, at the end of a document, only lacks its end: it is one with the end
+/// of the longest after it.
 fn is_cut(escape: &str) -> bool {
     let longest = "uD800\\uDC00";
     if escape.len() >= longest.len() {

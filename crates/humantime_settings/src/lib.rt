@@ -1,5 +1,5 @@
 //! Settings with durations and timestamps as strings: `serde` reads and writes them in JSON, TOML
-//! or another format. Errors of reading the first two have a position.
+//! or another format. Errors of reading JSON or TOML have a position.
 //!
 //! - [`#[serde(with = "humantime_settings")]`](Field) marks a field of a type that derives
 //!   `Serialize` or `Deserialize`: a duration, a timestamp, or a list or a map of these. An
@@ -7,7 +7,7 @@
 //!   `None` if it is missing.
 //! - [`AsText`] wraps the key of a map, or an item of another collection.
 //! - [`from_json`] and [`from_toml`] read settings. Their error, [`SettingsError`], has a line and
-//!   a column, and prints the message of `humantime` or `serde`, the line, and carets under what is
+//!   a column, unless memory runs out, and prints the message, the line, and carets under what is
 //!   wrong.
 //! - [`to_json`] and [`to_toml`] write settings, each marked value as its canonical string.
 //!
@@ -53,6 +53,7 @@ mod json_positions;
 mod json_settings;
 mod json_syntax;
 mod raw_strings;
+mod text;
 mod toml_positions;
 mod toml_settings;
 

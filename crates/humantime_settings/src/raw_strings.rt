@@ -1,23 +1,23 @@
 //! Where a part of a string is in its literal: in JSON, or of each of the four kinds in TOML.
 
-use crate::toml_positions::{offset_of, tail};
+use crate::text::{offset_of, tail};
 use toml_parser::text::skip_blank;
 
 /// Returns the range of the literal at the front of a document that stands for a range of its
 /// string.
 pub(crate) fn raw_range(document: &str, text: &str, start: usize, end: usize) -> (usize, usize) {
     let content = content_of(document);
-    let quotes = offset_of(document, content);
     let (first, last) = if document.starts_with('\'') {
-        (start, end)
+        (tail(content, start), tail(content, end))
     } else {
-        let first = after_blank(content, offset_after(content, text, start));
-        (first, offset_after(content, text, end).max(first))
+        let first = after_folds(after(content, text, start));
+        (first, after(content, text, end))
     };
-    (quotes.saturating_add(first), quotes.saturating_add(last))
+    let first = offset_of(document, first);
+    (first, offset_of(document, last).max(first))
 }
 
-/// Returns what is behind the quotes, if the document begins with any. A line feed at the start of
+/// Returns what is after the quotes, if the document begins with any. A line feed just after
 /// three quotes is left out.
 fn content_of(document: &str) -> &str {
     let long = document
@@ -26,23 +26,23 @@ fn content_of(document: &str) -> &str {
     let Some(content) = long else {
         return document.strip_prefix(['"', '\'']).unwrap_or(document);
     };
-    let content = content.strip_prefix('\r').unwrap_or(content);
-    content.strip_prefix('\n').unwrap_or(content)
+    let feed = content.strip_prefix("\r\n").or(content.strip_prefix('\n'));
+    feed.unwrap_or(content)
 }
 
-/// Returns the offset in a string's content behind what stands for its first bytes.
-fn offset_after(content: &str, text: &str, len: usize) -> usize {
-    let mut next = 0;
+/// Returns the content after what stands for so many bytes of its string.
+fn after<'a>(content: &'a str, text: &str, len: usize) -> &'a str {
+    let mut rest = content;
     for c in text.get(..len).unwrap_or(text).chars() {
-        let at = after_blank(content, next);
-        next = at.saturating_add(raw_len(tail(content, at), c));
+        let folded = after_folds(rest);
+        rest = tail(folded, raw_len(folded, c));
     }
-    next
+    rest
 }
 
-/// Returns the offset after each backslash at the end of a line, with the white space behind it.
-fn after_blank(content: &str, at: usize) -> usize {
-    let mut rest = tail(content, at);
+/// Returns the content after backslashes at the end of a line, each with the white space after it.
+fn after_folds(content: &str) -> &str {
+    let mut rest = content;
     for _ in 0..content.len() {
         match rest.strip_prefix('\\') {
             Some(blank) if blank.starts_with([' ', '\t', '\r', '\n']) => {
@@ -51,7 +51,7 @@ fn after_blank(content: &str, at: usize) -> usize {
             _ => break,
         }
     }
-    offset_of(content, rest)
+    rest
 }
 
 /// Returns the length of what stands for a character at the front of the content.

@@ -1,5 +1,6 @@
 //! The position in a TOML document to which a path leads.
 
+use crate::text::{first_where, offset_of, tail};
 use std::alloc::{AllocError, Global};
 use toml::Value;
 use toml_parser::text::{first, skip_blank, skip_ws};
@@ -9,7 +10,6 @@ use toml_parser::{RECURSION_LIMIT, quoted, starts_string};
 #[derive(Clone, Copy)]
 pub(crate) enum Step<'a> {
     Key(&'a str),
-    /// The number of the item, from 1.
     Item(usize),
 }
 
@@ -18,8 +18,8 @@ pub(crate) enum Step<'a> {
 /// but its value twice.
 pub(crate) type Entry<'a> = (&'a str, &'a str);
 
-/// The steps of a path that are left in a table or behind a key, or `None` if the path does not
-/// lead there.
+/// What is left of the path after a table or a key that it leads through, or `None` for one that
+/// it does not lead through.
 type StepsLeft<'a> = Option<&'a [Step<'a>]>;
 
 /// A walk through a document that `toml` has read, along a path.
@@ -30,8 +30,7 @@ struct Walk<'a> {
     rest: &'a str,
     /// What is left of the path in the table that is open.
     left: StepsLeft<'a>,
-    /// How many items have begun with a header in two brackets, by the number of steps that are
-    /// left.
+    /// For each number of steps that can be left, how many headers in two brackets led there.
     item_counts: Vec<usize>,
     /// The first part of a longer key that makes the table where the path ends.
     implied: Option<Entry<'a>>,
@@ -80,11 +79,12 @@ impl<'a> Walk<'a> {
     fn header(&mut self, header: &'a str) -> Result<Option<Entry<'a>>, AllocError> {
         let name = header.trim_start_matches(['[', ' ', '\t']);
         let (left, key, rest) = self.key(name, Some(self.path))?;
-        self.rest = tail(rest, rest.find('\n').unwrap_or(rest.len()));
-        if let (true, Some(steps)) = (header.starts_with("[["), left) {
-            if let Some(count) = self.item_counts.get_mut(steps.len()) {
-                *count = count.saturating_add(1);
-            }
+        self.rest = rest.trim_start_matches(|c: char| c != '\n');
+        if header.starts_with("[[")
+            && let Some(steps) = left
+            && let Some(count) = self.item_counts.get_mut(steps.len())
+        {
+            *count = count.saturating_add(1);
         }
         self.left = self.in_last_item(left);
         Ok(matches!(self.left, Some([])).then_some((key, header)))
@@ -114,8 +114,8 @@ impl<'a> Walk<'a> {
         Ok(None)
     }
 
-    /// Passes a key. Returns what is left of the path behind it, the document from its last part
-    /// on, and the document behind it.
+    /// Passes a key. Returns what is left of the path after it, the document from its last part
+    /// on, and the document after it.
     fn key(
         &mut self,
         key: &'a str,
@@ -142,12 +142,12 @@ impl<'a> Walk<'a> {
 
     /// Goes into the last item that a header has begun, if the path leads into an array of tables.
     fn in_last_item(&self, left: StepsLeft<'a>) -> StepsLeft<'a> {
-        match left? {
-            steps @ [Step::Item(number), later @ ..] => {
-                (self.item_counts.get(steps.len()) == Some(number)).then_some(later)
-            }
-            _ => left,
-        }
+        let steps = left?;
+        let [Step::Item(number), later @ ..] = steps else {
+            return left;
+        };
+        let last = self.item_counts.get(steps.len())?.checked_sub(1)?;
+        (last == *number).then_some(later)
     }
 }
 
@@ -167,30 +167,16 @@ pub(crate) fn wrong_part(alloc: Global, document: &str, at: usize) -> Result<usi
     // No key of the document is as long.
     let fresh = "x".repeat(alloc, document.len())?;
     // A part after one that cannot be extended cannot be extended either.
-    let (mut low, mut high) = (0, parts.len().saturating_sub(1));
-    for _ in 0..RECURSION_LIMIT {
-        if low >= high {
-            break;
-        }
-        let middle = low + (high - low) / 2;
-        let end = parts.get(middle).map_or(at, |part| part.1);
+    let wrong = first_where(parts.len().saturating_sub(1), |number| {
+        let end = parts.get(number).map_or(at, |part| part.1);
         let front = document.get(..end).unwrap_or("");
         let text = format!(in alloc; "{front}.{fresh}{rest}")?;
-        if error_start(toml::table_from_str(alloc, &text))? == Some(at) {
-            high = middle;
-        } else {
-            low = middle + 1;
-        }
-    }
-    Ok(parts.get(low).map_or(at, |part| part.0))
+        Ok(error_start(toml::table_from_str(alloc, &text))? == Some(at))
+    })?;
+    Ok(parts.get(wrong).map_or(at, |part| part.0))
 }
 
-/// Returns the offset of a string at the end of a document.
-pub(crate) fn offset_of(document: &str, rest: &str) -> usize {
-    document.len().saturating_sub(rest.len())
-}
-
-/// Returns the part of a key at the front, and the document behind it and blanks.
+/// Returns the part of a key at the front, and the document after it and blanks.
 fn name_at(alloc: Global, front: &str) -> Result<(String, &str), AllocError> {
     if starts_string(front) {
         let (name, rest) = quoted(alloc, front).map_err(|_| AllocError)?;
@@ -205,7 +191,7 @@ fn name_at(alloc: Global, front: &str) -> Result<(String, &str), AllocError> {
 /// Returns the document from an item of the array at the front on.
 fn item_of(alloc: Global, array: &str, number: usize) -> Result<&str, AllocError> {
     let mut item = next_item(tail(array, 1));
-    for _ in 1..number {
+    for _ in 0..number {
         item = next_item(after_value(alloc, item)?);
     }
     Ok(item)
@@ -217,11 +203,8 @@ fn next_item(rest: &str) -> &str {
     skip_blank(rest.strip_prefix(',').unwrap_or(rest), true)
 }
 
-/// Returns the document behind the value at the front, where `toml` finds more than a value.
+/// Returns the document after the value at the front, where `toml` finds more than a value.
 fn after_value(alloc: Global, value: &str) -> Result<&str, AllocError> {
-    if starts_string(value) {
-        return Ok(name_at(alloc, value)?.1);
-    }
     let end = error_start(Value::from_str(alloc, value))?;
     Ok(tail(value, end.unwrap_or(value.len())))
 }
@@ -232,9 +215,4 @@ fn error_start<T: Drop>(read: Result<T, toml::de::Error>) -> Result<Option<usize
         Ok(_) => Ok(None),
         Err(error) => Ok(Some(error.span().ok_or(AllocError)?.start)),
     }
-}
-
-/// Returns the string after an offset.
-pub(crate) fn tail(text: &str, at: usize) -> &str {
-    text.get(at..).unwrap_or("")
 }

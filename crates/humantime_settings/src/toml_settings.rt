@@ -5,13 +5,15 @@ ghost use Rattle.toml.specs.Parse.{parse_document};
 ghost use Rattle.humantime_settings.specs.Positions.{IsErrorIn, line_of};
 
 use crate::error::{SettingsError, error_at};
-use crate::error_range::{error_from, range_at};
-use crate::toml_positions::{Step, entry_of, offset_of, tail, wrong_part};
+use crate::error_range::{error_from, value_error};
+use crate::text::{offset_of, tail};
+use crate::toml_positions::{Step, entry_of, wrong_part};
 use humantime_std::located::Located;
-use serde::{DeserializeOwned, Kind, Serialize};
+use serde::{DeserializeOwned, Deserializer, Format, Kind, Serialize};
 use serde_trace::{Cause, Part, Rejection, Traced, Unexpected};
 use std::alloc::{AllocError, Global};
 use toml::Value;
+use toml::de::Error;
 use toml_parser::ErrorKind;
 
 /// Reads settings in TOML.
@@ -19,8 +21,8 @@ use toml_parser::ErrorKind;
 /// # Errors
 ///
 /// A document that is not TOML has that error alone; else the error is the first that the type
-/// meets, in the order of the sorted keys of each table: an enum's tag first, flattened keys last,
-/// and missing keys after wrong values.
+/// meets, in the order of the sorted keys of each table, but an enum's tag before the other keys,
+/// flattened keys after them, and missing keys after wrong values.
 ///
 /// Returns [`SettingsError::At`] for an error in the document. The position is
 ///
@@ -29,7 +31,7 @@ use toml_parser::ErrorKind;
 ///   its start;
 /// - of a missing key: the start of its table. This is its header or its brace, or the first key
 ///   that makes it, and of the table at the top the start of the document;
-/// - of a string that is not TOML: where it stops being TOML.
+/// - of a document that is not TOML: where it stops being TOML.
 ///
 /// Returns [`SettingsError::OutOfMemory`] if an allocation fails.
 ///
@@ -56,12 +58,39 @@ pub fn from_toml<T: DeserializeOwned>(alloc: Global, text: &str) -> Result<T, Se
     ensures position { IfErr result (IsErrorIn text.now) }
     ensures positioned { (message : _) → result ≢ Err (SettingsError.WithoutPosition message) }
 {
-    match toml::from_str::<T>(alloc, text) {
-        Ok(value) => Ok(value),
-        Err(error) => {
-            let error = located::<T>(alloc, text, &error)?;
-            Err(error_at(alloc, text, error)?)
+    let error = match toml::from_str::<Tried<T>>(alloc, text) {
+        Ok(Tried(Ok(value))) => return Ok(value),
+        Ok(Tried(Err(rejection))) => {
+            let table = toml::table_from_str(alloc, text).map_err(|_| AllocError)?;
+            rejected(alloc, text, &Value::Table(table), rejection)?
         }
+        Err(error) => document_error(alloc, text, error)?,
+    };
+    Err(error_at(alloc, text, error)?)
+}
+
+/// A value that is read at once, or traced if it is rejected.
+#[derive(Drop)]
+struct Tried<T>(Result<T, Rejection>);
+
+impl<T: DeserializeOwned> DeserializeOwned for Tried<T> {
+    fn deserialize_owned<F: Format>(
+        alloc: Global,
+        from: &mut Deserializer<'_, '_, F>,
+    ) -> Result<Tried<T>, F::Error> {
+        let start = from.mark();
+        match T::deserialize_owned(alloc, from) {
+            Ok(value) => return Ok(Tried(Ok(value))),
+            Err(error) => if from.is_fatal(&error) {
+                return Err(error);
+            },
+        }
+        from.rewind(start);
+        // Until another key is read, `toml` takes the last variant's data for a unit.
+        from.begin_map()?;
+        from.next_key(&[])?;
+        from.rewind(start);
+        Ok(Tried(Traced::deserialize_owned(alloc, from)?.0))
     }
 }
 
@@ -93,56 +122,25 @@ pub fn to_toml<T: Serialize>(alloc: Global, value: &T) -> Result<String, Setting
     }
 }
 
-/// Returns the error of a document that `toml` rejects with this one.
-fn located<T: DeserializeOwned>(
-    alloc: Global,
-    text: &str,
-    error: &toml::de::Error,
-) -> Result<Located<String>, AllocError> {
-    if error.is_memory() {
-        return Err(AllocError);
-    }
-    let values = match toml::table_from_str(alloc, text) {
-        Ok(table) => Value::Table(table),
-        Err(error) => return document_error(alloc, text, &error),
-    };
-    match toml::from_str::<Traced<T>>(alloc, text) {
-        Ok(Traced(Err(rejection))) => rejected(alloc, text, &values, rejection),
-        Ok(Traced(Ok(_value))) => Ok(error_from(0, String::from_str(alloc, error.message())?)),
-        Err(_error) => Err(AllocError),
-    }
-}
-
-/// Returns the error of a string that is not TOML.
-fn document_error(
-    alloc: Global,
-    text: &str,
-    error: &toml::de::Error,
-) -> Result<Located<String>, AllocError> {
+/// Returns the error of a document that is not TOML.
+fn document_error(alloc: Global, text: &str, error: Error) -> Result<Located<String>, AllocError> {
     let span = error.span().ok_or(AllocError)?;
     let (start, word) = (span.start, text.get(span).unwrap_or(""));
     let is = |kind: ErrorKind| error.message() == kind.description();
-    let at = if is(ErrorKind::DuplicateKey) || is(ErrorKind::Extend) {
-        wrong_part(alloc, text, start)?
-    } else {
-        start
-    };
-    if let (true, Some((first, _))) = (is(ErrorKind::Value), word.split_once(' ')) {
-        return after_word(alloc, text, start.saturating_add(first.len()));
+    if is(ErrorKind::DuplicateKey) || is(ErrorKind::Extend) {
+        return error_from(alloc, wrong_part(alloc, text, start)?, error.message());
     }
-    Ok(error_from(at, String::from_str(alloc, error.message())?))
-}
-
-/// Returns the error of a document with a space at this offset, after which `toml` expects a time.
-fn after_word(alloc: Global, text: &str, space: usize) -> Result<Located<String>, AllocError> {
+    let (true, Some((first, _))) = (is(ErrorKind::Value), word.split_once(' ')) else {
+        return error_from(alloc, start, error.message());
+    };
+    // After one space `toml` expects a time, and not after two.
+    let space = start.saturating_add(first.len());
     let (front, rest) = (text.get(..space).unwrap_or(""), tail(text, space));
     let apart = format!(in alloc; "{front} {rest}")?;
-    let Err(error) = toml::table_from_str(alloc, &apart) else {
-        return Err(AllocError);
-    };
+    let error = toml::table_from_str(alloc, &apart).err().ok_or(AllocError)?;
     let start = error.span().ok_or(AllocError)?.start;
     let at = start.saturating_sub(usize::from(start > space));
-    Ok(error_from(at, String::from_str(alloc, error.message())?))
+    error_from(alloc, at, error.message())
 }
 
 /// Returns the error of a value.
@@ -165,15 +163,14 @@ fn rejected(
         _ => described(value),
     };
     let (key, value) = entry_of(alloc, text, &steps)?;
-    let rest = if rejection.part == Part::Key {
-        key
-    } else {
-        value
+    let rest = match rejection.part {
+        Part::Key => key,
+        _ => value,
     };
-    range_at(alloc, text, offset_of(text, rest), &rejection, found)
+    value_error(alloc, text, offset_of(text, rest), &rejection, found)
 }
 
-/// Returns the steps of a path, at most to a date-time, and the value to which they lead.
+/// Returns the steps of a path, at most to a date-time, and the value there.
 fn way<'a>(
     alloc: Global,
     values: &'a Value,
@@ -181,25 +178,21 @@ fn way<'a>(
 ) -> Result<(Vec<Step<'a>>, &'a Value), AllocError> {
     let (mut steps, mut value) = (Vec::new(alloc), values);
     for number in path {
-        let Some((step, inner)) = step_into(value, *number) else {
-            break;
+        let (step, inner) = match value {
+            Value::Table(table) => match table.iter().nth(*number) {
+                Some((key, inner)) => (Step::Key(key.as_str()), inner),
+                None => break,
+            },
+            Value::Array(items) => match items.get(*number) {
+                Some(item) => (Step::Item(*number), item),
+                None => break,
+            },
+            _ => break,
         };
         steps.push(step)?;
         value = inner;
     }
     Ok((steps, value))
-}
-
-/// Returns the step to an entry or an item, and its value.
-fn step_into(value: &Value, number: usize) -> Option<(Step<'_>, &Value)> {
-    match value {
-        Value::Table(table) => {
-            let (key, inner) = table.iter().nth(number)?;
-            Some((Step::Key(key.as_str()), inner))
-        }
-        Value::Array(items) => Some((Step::Item(number.saturating_add(1)), items.get(number)?)),
-        _ => None,
-    }
 }
 
 /// Describes a value.

@@ -756,7 +756,12 @@ fn errors_of_documents(rt: HostRuntime) -> Result<(), Fail> {
         &[],
         &[
             ("EOF while parsing", &["^", r#""^"#]),
-            ("expected value", &["^}", "^\u{feff}{}"]),
+            ("expected value", &["^}", "^\u{feff}{}", "^tru[", "[^nuLl]"]),
+            (
+                "trailing characters",
+                &["1^x", "-0.5 ^2", "true^false", "\"a\"^:1", "[1]\n^,2"],
+            ),
+            ("invalid number", &["0^1", "[-0.5e^]"]),
             ("invalid type: integer `7`, expected a map", &["^7"]),
         ],
     )?;

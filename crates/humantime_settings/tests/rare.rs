@@ -2,6 +2,7 @@
 
 use crate::support::{Row, Wait, assert_errors, reads};
 use serde::Deserialize;
+use std::collections::BTreeMap;
 use std::test::Fail;
 
 /// Other keys are passed.
@@ -10,9 +11,24 @@ struct Settings {
     wait: Option<Wait>,
     ratio: Option<f64>,
     small: Option<i8>,
+    limit: Option<Limit>,
 }
 
-/// What is not JSON, marked at the first byte that no JSON has there.
+/// In TOML no value is a unit.
+#[derive(Debug, Drop, Deserialize)]
+#[serde(untagged)]
+enum Limit {
+    Units(BTreeMap<String, ()>),
+    Variant(Variant),
+}
+
+#[derive(Debug, Drop, Deserialize)]
+enum Variant {
+    Most(u32),
+}
+
+/// What is not JSON, marked at the first byte that no JSON has there, or the start of a wrong word
+/// or escape.
 const NO_JSON: &[Row<'static>] = &[
     (
         "invalid number",
@@ -265,6 +281,14 @@ const ESCAPES: &[Row<'static>] = &[
         ],
     ),
     (
+        "invalid character at 4",
+        &[
+            r#"{"wait":"\u30001^~^"}"#,
+            r#"wait = "\u30001^~^""#,
+            r#"wait = "\U000030001^~^""#,
+        ],
+    ),
+    (
         "number out of range",
         &[r#"{"ratio":^1e400}"#, "{\n\n\"ratio\":\n\n  ^-1e400\n\n}\n"],
     ),
@@ -277,11 +301,17 @@ const ESCAPES: &[Row<'static>] = &[
             "small = ^1_28",
         ],
     ),
+    (
+        "data did not match any variant of untagged enum",
+        &["limit = ^{ Most = {} }", "small = 1\nlimit = ^{ Most = [] }"],
+    ),
     // Other values before the error are as they may be.
     (
         "invalid character at 1",
         &[
             r#"{"a":"\u00e9\ud83d\ude00\/\b\f\n\r\t\"\\","wait":"1^~^"}"#,
+            r#"{"a":"\udbff\udfff\ud800\udc00","wait":"1^~^"}"#,
+            "{\r\n\"a\"\r:\t1,\r\n\"wait\": \"1^~^\"\r\n}\r",
             r#"{"a":[-0.0e-5,1E+09,0,-0,0e0,12.50],"wait":"1^~^"}"#,
             r#"{"a":«[*126»«]*126»,"wait":"1^~^"}"#,
             r#"{"a":[{},[],[[]],{"":{}}],"wait":"1^~^"}"#,
