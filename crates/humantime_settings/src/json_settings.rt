@@ -55,16 +55,17 @@ pub fn from_json<T: DeserializeOwned>(alloc: Global, text: &str) -> Result<T, Se
     ensures position { IfErr result (IsErrorIn text.now) }
     ensures positioned { (message : _) → result ≢ Err (SettingsError.WithoutPosition message) }
 {
-    if let Ok(Owned(value)) = serde_json::from_str::<Owned<T>>(alloc, text) {
-        return Ok(value);
-    }
+    let refused = match serde_json::from_str::<Owned<T>>(alloc, text) {
+        Ok(Owned(value)) => return Ok(value),
+        Err(error) => error,
+    };
     let error = match serde_json::from_str::<Traced<T>>(alloc, text) {
-        Ok(Traced(Ok(value))) => return Ok(value),
         Ok(Traced(Err(rejection))) => {
             let mut scratch = Scratch::new(alloc);
             let (at, found) = found_at(text, &rejection, &mut scratch)?;
             value_error(alloc, text, at, &rejection, found)?
         }
+        Ok(Traced(Ok(_value))) => document_error(alloc, text, &refused)?,
         Err(error) => document_error(alloc, text, &error)?,
     };
     Err(error_at(alloc, text, error)?)

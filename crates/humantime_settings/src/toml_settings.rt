@@ -79,18 +79,22 @@ impl<T: DeserializeOwned> DeserializeOwned for Tried<T> {
         from: &mut Deserializer<'_, '_, F>,
     ) -> Result<Tried<T>, F::Error> {
         let start = from.mark();
-        match T::deserialize_owned(alloc, from) {
+        let error = match T::deserialize_owned(alloc, from) {
             Ok(value) => return Ok(Tried(Ok(value))),
-            Err(error) => if from.is_fatal(&error) {
-                return Err(error);
-            },
+            Err(error) => error,
+        };
+        if from.is_fatal(&error) {
+            return Err(error);
         }
         from.rewind(start);
         // Until another key is read, `toml` takes the last variant's data for a unit.
         from.begin_map()?;
         from.next_key(&[])?;
         from.rewind(start);
-        Ok(Tried(Traced::deserialize_owned(alloc, from)?.0))
+        match Traced::<T>::deserialize_owned(alloc, from)? {
+            Traced(Ok(_value)) => Err(error),
+            Traced(Err(rejection)) => Ok(Tried(Err(rejection))),
+        }
     }
 }
 
