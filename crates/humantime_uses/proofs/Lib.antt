@@ -1,5 +1,4 @@
 pub mod CaretColumns
-pub mod CountedDays
 pub mod Kept
 pub mod LimitFacts
 pub mod LineWidths

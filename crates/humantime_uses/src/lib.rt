@@ -10,7 +10,6 @@
 pub mod buffers;
 pub mod calendar;
 pub mod carets;
-pub mod counted_days;
 pub mod displays;
 pub mod durations;
 pub mod laws;

@@ -1,6 +1,6 @@
 use Rattle.std.proofs.Common.{◌≡◌, ◌+◌, ◌-◌}
 use Rattle.humantime.specs.Calendar.{days_of_months, days_of_years}
-use Rattle.humantime_uses.proofs.counted_days.counted_day.Given as goal
+use Rattle.humantime_counted_days.proofs.counted_day.Given as goal
 
 abbrev pub invariant-loop-year : goal.invariant-loop-year
 invariant-loop-year l = l.days ≡ days_of_years (l.year - 1970) + (l.date.day - 1)

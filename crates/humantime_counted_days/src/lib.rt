@@ -2,7 +2,7 @@
 //!
 //! It meets the contract of `day_number`, since it counts no iteration. One that counts each meets
 //! all but the clause `cost`, as a wrong body in `must-fail` shows.
-#![tactic(auto, using(crate::proofs::CountedDays::counted))]
+#![tactic(auto)]
 
 ghost use Rattle.std.specs.Prelude.{◌≡◌, ◌↔◌, IfSome, IsSome};
 ghost use Rattle.humantime.specs.Calendar.{days_in_month, days_in_year};
@@ -34,6 +34,7 @@ fn month_length(year: u32, month: u32) -> u32
 
 /// Returns the number of days from 1970-01-01 to `date`, or `None` if the date does not exist in
 /// 1970 to 9999, as [`humantime::day_number`] does.
+#[tactic(auto, using(crate::proofs::CountedDays::counted))]
 pub fn counted_day(date: Date, turns: &mut Turns) -> Option<u32>
     ensures valid { IsSome result ↔ IsDate date }
     ensures day { IfSome result (λ n. n ≡ day_of date) }
