@@ -2,16 +2,16 @@
 -- of the program.
 use Rattle.humantime.specs.DurationErrors.{fault_of, fault_message}
 use Rattle.humantime.specs.DurationResults.{IsDurationAnswer, duration_text, canonical_answer}
-use Rattle.humantime.specs.TimestampResults.{strict_answer, weak_answer, shortest_text}
+use Rattle.humantime.specs.TimestampResults.{IsStrictAnswer, IsWeakAnswer, strict_answer, weak_answer, shortest_text}
 use Rattle.humantime.specs.Timestamps.{IsPrintable, timestamp_message, places_of}
-use Rattle.std.proofs.Common.{◌≡◌, ◌≢◌, ◌↔◌, ℕ, List, [], ◌∷◌, length, ap, sym, ◌∙◌, refl, arith, ℤ, None, Some, Result, Ok, Err, chars, codes, IsSome, IfOk, unwrap_or, if◌then◌else◌, ◌==◌, inl, inr, Option}
+use Rattle.std.proofs.Common.{◌≡◌, ◌≢◌, ◌↔◌, ℕ, List, [], ◌∷◌, length, ap, sym, ◌∙◌, refl, arith, ℤ, None, Some, Result, Ok, Err, chars, codes, IsSome, IfOk, unwrap_or, if◌then◌else◌, ◌==◌, inl, inr, subst, Option}
 use Rattle.std.specs.Result.{result_and, result_map_both, result_unwrap_or}
 use Rattle.std.proofs.KnownBytes.{Appends-nil, Appends-kept, Keeps-refl, Keeps-trans}
 use Rattle.std.specs.Io.KnownBytes.{Keeps}
 use Rattle.humantime.specs.declared.date.error.TimestampError.{TimestampError}
 use Rattle.humantime.specs.declared.duration.error.DurationError.{DurationError}
 use Rattle.humantime.proofs.Theorems.{canonical_again, printed_is_canon, printed_some, one_stamp_outcome, printed_moment_reads, places_of_bound, strict_printable, weak_printable}
-use Rattle.humantime_cli.specs.Answers.{Answer, Answers, OneAnswer, IsOutputOf, IsMomentOutput, Command, Duration, Strict, Weak, Streams, streams, EndsWith, Whole, Cut, outcome}
+use Rattle.humantime_cli.specs.Answers.{Answer, Answers, OneAnswer, IsOutputOf, IsMomentOutput, Command, Duration, Strict, Weak, Streams, streams, Ends, EndsWith, Runs, Unflushed, Whole, Cut, outcome}
 use Rattle.humantime_cli.specs.Writes.{Writes, line}
 
 -- The text of the moment that was parsed, or the message of its error.
@@ -85,14 +85,18 @@ answer_of_words : (words : List (List ℕ)) (told : Result (List ℕ) (List ℕ)
 answer_of_words words told (name, command, text, same, tells) =
     one_command_answer command text told tells ∙ ap words_answer (sym same)
 
-pub one_answer : (words : List (List ℕ)) → OneAnswer words
-one_answer words (Some told) (Some other) answers also =
+same_answer : (words : List (List ℕ)) (answer other : Answer) → Answers words answer
+    → Answers words other → other ≡ answer
+same_answer words (Some told) (Some other) answers also =
     ap Some (answer_of_words words other also ∙ sym (answer_of_words words told answers))
-one_answer words (Some told) None (name, command, text, same, tells) none =
+same_answer words (Some told) None (name, command, text, same, tells) none =
     absurd (none name command text same)
-one_answer words None (Some told) none (name, command, text, same, tells) =
+same_answer words None (Some told) none (name, command, text, same, tells) =
     absurd (none name command text same)
-one_answer words None None none also = refl
+same_answer words None None none also = refl
+
+pub one_answer : (words : List (List ℕ)) → OneAnswer words
+one_answer words = record { same = same_answer words }
 
 -- ==== The end of the program, by what one write accepted.
 
@@ -124,3 +128,73 @@ flushed (Whole same taken told) kept = Whole same (Appends-kept _ _ _ _ taken ke
 flushed (Cut three (inl ((n, before, taken), same))) kept =
     Cut three (inl ((n, before, Appends-kept _ _ _ _ taken kept), same))
 flushed (Cut three (inr (same, front))) kept = Cut three (inr (Keeps-trans _ _ _ same kept, front))
+
+-- The program ended, and then standard output was flushed, or could not be.
+pub flush_ends : {E : Type 0} (r : Result ℕ E) (given words : List (List ℕ)) (status : ℕ)
+    (old_out out new_out : Option (List ℕ)) (old_err err : Option (List ℕ))
+    → Ends given status (streams old_out old_err) (streams out err) → Keeps out new_out
+    → IfOk r (λ s. s ≡ status) → given ≡ words
+    → Runs words r (streams old_out old_err) (streams new_out err)
+flush_ends (Err e) given words status old_out out new_out old_err err is kept failed same = record {
+  ends = tt;
+  fails = Unflushed status (record {
+    answer = is.answer;
+    answers = subst (λ w. Answers w is.answer) same is.answers;
+    ends = flushed is.ends kept;
+  });
+}
+flush_ends (Ok s) given words status old_out out new_out old_err err is kept one same = record {
+  ends = record {
+    answer = is.answer;
+    answers = subst (λ w. Answers w is.answer) same is.answers;
+    ends = rw one (flushed is.ends kept);
+  };
+  fails = tt;
+}
+
+-- ==== The end of the program, by what a command read.
+
+ends_in : {status : ℕ} {old new : Streams} {name : List ℕ} (command : Command name) (text : List ℕ)
+    (output : Result (List ℕ) (List ℕ)) → IsOutputOf command text output
+    → EndsWith (Some output) status old new
+    → Ends (name ∷ text ∷ []) status old new
+ends_in {name = name} command text output tells ends =
+    record { answer = Some output; answers = (name, command, text, refl, tells); ends = ends }
+
+pub duration_ends : (text : List ℕ) (read : Result ℕ DurationError) {status : ℕ} {old new : Streams}
+    → IsDurationAnswer text read
+    → EndsWith (Some (result_map_both duration_text (λ e. fault_message (fault_of e)) read)) status old new
+    → Ends (codes "duration" ∷ text ∷ []) status old new
+duration_ends text read is ends = ends_in Duration text _ (tells_duration read is) ends
+
+pub strict_ends : (text : List ℕ) (read : Result ℤ TimestampError) {status : ℕ} {old new : Streams}
+    → IsStrictAnswer text read
+    → EndsWith (Some (moment_written read)) status old new
+    → Ends (codes "strict" ∷ text ∷ []) status old new
+strict_ends text read is ends =
+    ends_in Strict text _ (tells_moment read is.value is.error (strict_printable text)) ends
+
+pub weak_ends : (text : List ℕ) (read : Result ℤ TimestampError) {status : ℕ} {old new : Streams}
+    → IsWeakAnswer text read
+    → EndsWith (Some (moment_written read)) status old new
+    → Ends (codes "weak" ∷ text ∷ []) status old new
+weak_ends text read is ends =
+    ends_in Weak text _ (tells_moment read is.value is.error (weak_printable text)) ends
+
+-- A moment that was read has a text.
+pub strict_has_text : (text : List ℕ) (read : Result ℤ TimestampError) → IsStrictAnswer text read
+    → IfOk read (λ t. IsSome (shortest_text t))
+strict_has_text text read is = has_text read is.value (strict_printable text)
+
+pub weak_has_text : (text : List ℕ) (read : Result ℤ TimestampError) → IsWeakAnswer text read
+    → IfOk read (λ t. IsSome (shortest_text t))
+weak_has_text text read is = has_text read is.value (weak_printable text)
+
+-- The usage line was written.
+pub usage_ends : {T E : Type 0} (words : List (List ℕ)) (written : Result T E) {ended : Result ℕ E}
+    (out : Option (List ℕ)) {old new : Option (List ℕ)} → Answers words None
+    → Writes written old new (outcome None).2
+    → ended ≡ result_and written (Ok 2)
+    → Ends words (result_unwrap_or ended 3) (streams out old) (streams out new)
+usage_ends words written out none wrote and =
+    record { answer = None; answers = none; ends = to_err written None out refl wrote and }

@@ -17,8 +17,8 @@ use Rattle.humantime_cli.specs.Writes.{line}
 ends_with : (words : List (List ℕ)) (answer : Answer) {status : ℕ} {old new : Streams}
     → Answers words answer → OneAnswer words → Ends words status old new
     → EndsWith answer status old new
-ends_with words answer {status = status} {old = old} {new = new} answers one (other, also, ends) =
-    subst (λ a. EndsWith a status old new) (one answer other answers also) ends
+ends_with words answer {status = status} {old = old} {new = new} answers one is =
+    subst (λ a. EndsWith a status old new) (one.same answer is.answer answers is.answers) is.ends
 
 -- Unless the status is 3, it is 0, and exactly this line was printed.
 abbrev Printed : List ℕ → ℕ → List ℕ → List ℕ → List ℕ → List ℕ → Type 0

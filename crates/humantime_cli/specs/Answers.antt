@@ -1,6 +1,7 @@
 -- The output of the program for its arguments, and the bytes that it writes to standard output and
 -- standard error.
 use Rattle.std.specs.Prelude.{◌≡◌, ◌≢◌, ◌⊎◌, ℕ, List, [], ◌∷◌, ℤ, Option, Some, None, Result, Ok, Err, codes, chars, map}
+use Rattle.std.specs.Prelude.{IfOk, IfErr}
 use Rattle.std.specs.Borrow.{Bor}
 use Rattle.std.specs.Io.KnownBytes.{Appends, Keeps}
 use Rattle.humantime.specs.declared.date.error.TimestampError.{TimestampError}
@@ -64,9 +65,9 @@ outcome (Some (Err message)) = (1, [], line message)
 outcome None = (2, [], line (codes "usage: humantime duration|strict|weak TEXT"))
 
 -- The arguments have at most one answer.
-abbrev pub OneAnswer : List (List ℕ) → Type 0
-OneAnswer words =
-    (answer other : Answer) → Answers words answer → Answers words other → other ≡ answer
+pub record OneAnswer (words : List (List ℕ)) : Type 0 where
+  pub same : (answer other : Answer) → Answers words answer → Answers words other
+      → other ≡ answer
 
 -- The streams received exactly the answer, and the status is that of the answer; or the status is
 -- 3, one stream received a prefix of its bytes, not all of them, and the other received nothing.
@@ -83,12 +84,21 @@ pub data EndsWith (answer : Answer) (status : ℕ) (old new : Streams) : Type 0 
       → EndsWith answer status old new
 
 -- The arguments have an answer, and the program ends with it.
-abbrev pub Ends : List (List ℕ) → ℕ → Streams → Streams → Type 0
-Ends words status old new =
-    (answer : Answer) × Answers words answer × EndsWith answer status old new
+pub record Ends (words : List (List ℕ)) (status : ℕ) (old new : Streams) : Type 0 where
+  pub answer : Answer
+  pub answers : Answers words answer
+  pub ends : EndsWith answer status old new
 
 -- The program returned an error: either nothing was written, or it ended as `Ends` says and
 -- standard output could not be flushed.
-abbrev pub Fails : List (List ℕ) → Streams → Streams → Type 0
-Fails words old new =
-    (Keeps old.out new.out × Keeps old.err new.err) ⊎ ((status : ℕ) × Ends words status old new)
+pub data Fails (words : List (List ℕ)) (old new : Streams) : Type 0 where
+  -- Nothing was written.
+  Unwritten : Keeps old.out new.out → Keeps old.err new.err → Fails words old new
+  -- Standard output could not be flushed.
+  Unflushed : (status : ℕ) → Ends words status old new → Fails words old new
+
+-- What a run of the program returned: a status with which it ended, or an error.
+pub record Runs {E : Type 0} (words : List (List ℕ)) (result : Result ℕ E) (old new : Streams)
+    : Type 0 where
+  pub ends : IfOk result (λ status. Ends words status old new)
+  pub fails : IfErr result (λ _. Fails words old new)

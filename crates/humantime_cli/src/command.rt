@@ -1,11 +1,13 @@
 //! Runs one command: parses its argument, and writes the result or an error message.
 
-ghost use Rattle.std.specs.Prelude.{[], unwrap_or, Some, IsSome, IfOk, IfErr};
+ghost use Rattle.std.specs.Prelude.{ℕ, List, [], ◌∷◌, Option, Some, Ok, Err, IsSome, IfOk, IfErr};
+ghost use Rattle.std.specs.Prelude.{codes, unwrap_or};
 ghost use Rattle.std.specs.Result.{result_map_both, result_unwrap_or};
+ghost use Rattle.humantime.specs.Prelude.{IsStrictAnswer};
 ghost use Rattle.humantime_cli.specs.Answers.{texts, streams, Ends, EndsWith, OneAnswer};
 
 use crate::writing::write_line;
-use humantime::{Duration, Timestamp, parse_rfc3339};
+use humantime::{Duration, Timestamp, TimestampError, parse_rfc3339};
 use std::fmt::{self, Display};
 use std::io::Write;
 use std::str::FromStr;
@@ -80,14 +82,60 @@ fn answer<O: Write, E: Write>(words: &[&str], out: &mut O, err: &mut E) -> Resul
         (streams (O.contents out.new) (E.contents err.new)) }
 {
     match words {
-        ["duration", text] => write_result(&Duration::from_str(text), out, err),
-        ["strict", text] => write_result(&parse_rfc3339(text).map(Timestamp::from), out, err),
-        ["weak", text] => write_result(&Timestamp::from_str(text), out, err),
+        ["duration", text] => write_duration(text, out, err),
+        ["strict", text] => write_strict(text, out, err),
+        ["weak", text] => write_weak(text, out, err),
         _ => write_line(err, USAGE).and(Ok(MISUSED)),
     }
 }
 
-/// Writes the value to `out`, or the error to `err`, and returns the status if no write fails.
+/// Parses a duration, and writes its canonical string to `out`, or the error message to `err`.
+/// Returns the status if no write fails.
+#[inline(always)]
+fn write_duration<O: Write, E: Write>(
+    text: &str,
+    out: &mut O,
+    err: &mut E,
+) -> Result<u8, fmt::Error>
+    ensures { Ends (codes "duration" ∷ text.now ∷ []) (result_unwrap_or result 3)
+        (streams (O.contents out.old) (E.contents err.old))
+        (streams (O.contents out.new) (E.contents err.new)) }
+{
+    write_result(&Duration::from_str(text), out, err)
+}
+
+/// Parses a timestamp in the strict format, and writes it to `out`, or the error message to `err`.
+/// Returns the status if no write fails.
+#[inline(always)]
+fn write_strict<O: Write, E: Write>(text: &str, out: &mut O, err: &mut E) -> Result<u8, fmt::Error>
+    ensures { Ends (codes "strict" ∷ text.now ∷ []) (result_unwrap_or result 3)
+        (streams (O.contents out.old) (E.contents err.old))
+        (streams (O.contents out.new) (E.contents err.new)) }
+{
+    write_result(&parse_strict(text), out, err)
+}
+
+/// Parses a timestamp in the weak format, and writes it to `out`, or the error message to `err`.
+/// Returns the status if no write fails.
+#[inline(always)]
+fn write_weak<O: Write, E: Write>(text: &str, out: &mut O, err: &mut E) -> Result<u8, fmt::Error>
+    ensures { Ends (codes "weak" ∷ text.now ∷ []) (result_unwrap_or result 3)
+        (streams (O.contents out.old) (E.contents err.old))
+        (streams (O.contents out.new) (E.contents err.new)) }
+{
+    write_result(&Timestamp::from_str(text), out, err)
+}
+
+/// Parses a timestamp in the strict format.
+#[inline(always)]
+fn parse_strict(text: &str) -> Result<Timestamp, TimestampError>
+    ensures { IsStrictAnswer text.now result }
+{
+    Ok(Timestamp::from(parse_rfc3339(text)?))
+}
+
+/// Writes the value to `out`, or the error message to `err`, and returns the status if no write
+/// fails.
 ///
 /// It takes a reference, because the prover does not accept a call with a
 /// `Result<Duration, DurationError<'_>>` by value.
@@ -105,7 +153,29 @@ fn write_result<O: Write, E: Write, V: Display + Copy, F: Display + Copy>(
         (streams (O.contents out.new) (E.contents err.new)) }
 {
     match parsed {
-        Ok(value) => write_line(out, *value).and(Ok(ACCEPTED)),
-        Err(error) => write_line(err, *error).and(Ok(REJECTED)),
+        Ok(value) => write_output(out, *value),
+        Err(error) => write_error(err, *error),
     }
+}
+
+/// Writes a value to `out`, and returns the status if no write fails.
+#[inline(always)]
+fn write_output<O: Write, V: Display + Copy>(out: &mut O, value: V) -> Result<u8, fmt::Error>
+    requires { IsSome (V.output value) }
+    ensures { (other : Option (List ℕ)) → EndsWith (Some (Ok (unwrap_or (V.output value) [])))
+        (result_unwrap_or result 3) (streams (O.contents out.old) other)
+        (streams (O.contents out.new) other) }
+{
+    write_line(out, value).and(Ok(ACCEPTED))
+}
+
+/// Writes an error message to `err`, and returns the status if no write fails.
+#[inline(always)]
+fn write_error<E: Write, F: Display + Copy>(err: &mut E, error: F) -> Result<u8, fmt::Error>
+    requires { IsSome (F.output error) }
+    ensures { (other : Option (List ℕ)) → EndsWith (Some (Err (unwrap_or (F.output error) [])))
+        (result_unwrap_or result 3) (streams other (E.contents err.old))
+        (streams other (E.contents err.new)) }
+{
+    write_line(err, error).and(Ok(REJECTED))
 }

@@ -3,8 +3,9 @@
 //! `humantime duration "2h 37min"` prints `2h 37m`.
 #![tactic(auto)]
 
-ghost use Rattle.std.specs.Prelude.{◌≡◌, map, string_bytes, IfOk, MatchResult};
-ghost use Rattle.humantime_cli.specs.Answers.{texts, streams, Ends, Fails};
+ghost use Rattle.std.specs.Prelude.{◌≡◌, ◌++◌, map, string_bytes, IfOk, OnOk};
+ghost use Rattle.std.specs.Io.KnownBytes.{Keeps};
+ghost use Rattle.humantime_cli.specs.Answers.{texts, streams, Runs};
 
 mod command;
 mod piece;
@@ -54,14 +55,20 @@ fn run_args<O: Write, E: Write>(
     out: &mut O,
     err: &mut E,
 ) -> io::Result<u8>
-    ensures { MatchResult result
-        (λ status. Ends (map string_bytes args.now) status
+    ensures { Runs (map string_bytes args.now) result
         (streams (O.contents out.old) (E.contents err.old))
-        (streams (O.contents out.new) (E.contents err.new)))
-        (λ _. Fails (map string_bytes args.now) (streams (O.contents out.old) (E.contents err.old))
-        (streams (O.contents out.new) (E.contents err.new))) }
+        (streams (O.contents out.new) (E.contents err.new)) }
 {
-    let status = run(words_of(alloc, args)?.as_slice(), out, err);
+    let words = words_of(alloc, args)?;
+    let status = run(words.as_slice(), out, err);
+    flush_after(status, out)
+}
+
+/// Flushes `out`, and returns the exit status.
+fn flush_after<O: Write>(status: u8, out: &mut O) -> io::Result<u8>
+    ensures same { IfOk result (λ returned. returned ≡ status) }
+    ensures kept { Keeps (O.contents out.old) (O.contents out.new) }
+{
     out.flush()?;
     Ok(status)
 }
@@ -71,8 +78,18 @@ fn words_of<'a>(alloc: Global, args: &'a [String]) -> Result<Vec<&'a str>, Alloc
     ensures { IfOk result (λ words. texts words.items ≡ map string_bytes args.now) }
 {
     let mut words = Vec::with_capacity(alloc, args.len())?;
-    for arg in args {
-        words.push(arg.as_str())?;
-    }
+    push_words(&mut words, args)?;
     Ok(words)
+}
+
+/// Adds the arguments to the words, as string slices.
+fn push_words<'a>(words: &mut Vec<&'a str>, mut args: &'a [String]) -> Result<(), AllocError>
+    ensures { OnOk result (texts words.new.items
+        ≡ texts words.old.items ++ map string_bytes args.now) }
+{
+    'arguments: while let Some((arg, rest)) = args.split_first() {
+        words.push(arg.as_str())?;
+        args = rest;
+    }
+    Ok(())
 }

@@ -1,20 +1,9 @@
-use Rattle.std.proofs.Common.{ap, ◌∙◌, inr, subst}
-use Rattle.std.proofs.lemmas.Result.{MatchResult-from_err}
-use Rattle.humantime_cli.specs.Answers.{texts, Answers}
-use Rattle.humantime_cli.proofs.AnswerLemmas.{flushed}
+use Rattle.std.proofs.Common.{◌≡◌, map, string_bytes, arith, rules}
+use Rattle.humantime_cli.specs.Answers.{texts}
+use Rattle.humantime_cli.proofs.AnswerLemmas.{flush_ends}
 use Rattle.humantime_cli.proofs.run_args.Goals as goal
 
-pub returns-in_err-flush : goal.returns-in_err-flush
-returns-in_err-flush g c =
-    let words = ap texts c.as_slice.ensures.value ∙ c.in_ok-words_of.ensures in
-    let ends = c.run-status.ensures.ends in
-    MatchResult-from_err _ _ _ c.from_residual-in_err-flush.ensures.0
-    (λ _.
-    inr (
-      c.run-status.result,
-      (
-        ends.0,
-        subst (λ w. Answers w ends.0) words ends.1,
-        flushed ends.2 c.in_err-flush.ensures.bytes,
-      ),
-    ))
+pub returns : goal.returns
+returns g c =
+    let same : texts c.as_slice.result.now ≡ map string_bytes c.args.args.now = grind arith in
+    search (rules, flush_ends)
