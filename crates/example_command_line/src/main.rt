@@ -5,7 +5,7 @@
 #![tactic(auto)]
 
 use clap::error::ErrorKind;
-use clap::{Command, Error, arg};
+use clap::{ArgMatches, Command, Error, arg};
 use humantime::{Duration, Timestamp};
 use humantime_clap::{optional_value_of, value_of};
 use humantime_std::located::{parse_duration, parse_rfc3339_weak};
@@ -60,9 +60,18 @@ pub fn run(
 pub fn options_of(alloc: Global, words: &[String]) -> Result<Options, Error> {
     let mut command = command(alloc)?;
     let matches = command.try_get_matches_from_mut(words)?;
-    let timeout = value_of(alloc, &mut command, &matches, "timeout", parse_duration)?;
-    let window = value_of(alloc, &mut command, &matches, "window", parse_duration)?;
-    let since = optional_value_of(alloc, &mut command, &matches, "since", parse_rfc3339_weak)?;
+    options_in(alloc, &mut command, &matches)
+}
+
+/// Returns the options in the matches of a command line.
+fn options_in(
+    alloc: Global,
+    command: &mut Command<'_>,
+    matches: &ArgMatches<'_>,
+) -> Result<Options, Error> {
+    let timeout = value_of(alloc, command, matches, "timeout", parse_duration)?;
+    let window = value_of(alloc, command, matches, "window", parse_duration)?;
+    let since = optional_value_of(alloc, command, matches, "since", parse_rfc3339_weak)?;
     Ok(Options {
         timeout: Duration::new(timeout),
         window: Duration::new(window),
@@ -70,14 +79,18 @@ pub fn options_of(alloc: Global, words: &[String]) -> Result<Options, Error> {
     })
 }
 
-/// Creates the command. A duration may begin with a hyphen, so that the library says what is wrong
-/// with `-1s`.
+/// Creates the command.
 fn command<'a>(alloc: Global) -> Result<Command<'a>, AllocError> {
+    let command = with_durations(Command::new(alloc, "example_command_line"), alloc)?;
+    command.arg(arg!(in alloc; --since <TIMESTAMP> "Where to begin"))
+}
+
+/// Adds the options that are durations. They may begin with a hyphen, so that the library says what
+/// is wrong with `-1s`.
+fn with_durations<'a>(command: Command<'a>, alloc: Global) -> Result<Command<'a>, AllocError> {
     let timeout = arg!(in alloc; --timeout <DURATION> "How long to wait").default_value("30s");
     let window = arg!(in alloc; --window <DURATION> "How far to go").default_value("1year");
-    let since = arg!(in alloc; --since <TIMESTAMP> "Where to begin");
-    Command::new(alloc, "example_command_line")
+    command
         .arg(timeout.allow_hyphen_values(true))?
-        .arg(window.allow_hyphen_values(true))?
-        .arg(since)
+        .arg(window.allow_hyphen_values(true))
 }

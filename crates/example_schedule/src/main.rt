@@ -65,23 +65,36 @@ fn read_duration(text: &str) -> Result<StdDuration, Wrong<'_>> {
 }
 
 /// Reads a line with a name, the time of the last run, and an interval, which is the rest of the
-/// line. The time is parsed first.
+/// line. The error of the time comes first.
 fn read_job(line: &str) -> Result<Job<'_>, Wrong<'_>> {
     let (name, rest) = split_word(line);
-    let (last_text, every_text) = split_word(rest);
-    let last = read_time(last_text)?;
-    let every = read_duration(every_text.trim())?;
-    Ok(Job { name, last, every })
+    let (last, every) = split_word(rest);
+    match (read_time(last), read_duration(every.trim())) {
+        (Ok(last), Ok(every)) => Ok(Job { name, last, every }),
+        (Err(wrong), _) | (_, Err(wrong)) => Err(wrong),
+    }
 }
 
 fn read_retry(text: &str) -> Result<Retry, Wrong<'_>> {
-    let (delays, factor) = text.split_once(" x").ok_or(Wrong::Retry(text))?;
-    let (first, most) = delays.split_once("..").ok_or(Wrong::Retry(text))?;
-    Ok(Retry {
-        first: read_duration(first)?,
-        most: read_duration(most)?,
-        factor: factor.parse().map_err(|_| Wrong::Retry(text))?,
-    })
+    let Some((first, most, factor)) = split_retry(text) else {
+        return Err(Wrong::Retry(text));
+    };
+    match (read_duration(first), read_duration(most), factor.parse()) {
+        (Ok(first), Ok(most), Ok(factor)) => Ok(Retry {
+            first,
+            most,
+            factor,
+        }),
+        (Err(wrong), _, _) | (_, Err(wrong), _) => Err(wrong),
+        _ => Err(Wrong::Retry(text)),
+    }
+}
+
+/// Returns FIRST, MOST and N of `FIRST..MOST xN`.
+fn split_retry(text: &str) -> Option<(&str, &str, &str)> {
+    let (delays, factor) = text.split_once(" x")?;
+    let (first, most) = delays.split_once("..")?;
+    Some((first, most, factor))
 }
 
 /// Writes the delays after the first failures of a job.
@@ -134,13 +147,23 @@ fn write_runs(
     out: &mut impl Write,
     err: &mut impl Write,
 ) -> io::Result<u8> {
-    let (now, retry) = match (read_time(now), read_retry(retry)) {
-        (Ok(now), Ok(retry)) => (now, retry),
-        (Err(wrong), _) | (_, Err(wrong)) => {
-            writeln!(err, "schedule: {wrong}")?;
-            return Ok(2);
+    match (read_time(now), read_retry(retry)) {
+        (Ok(now), Ok(retry)) => {
+            let status = write_jobs(text, now, out, err)?;
+            write_delays(out, retry).map(|()| status)
         }
-    };
+        (Err(wrong), _) | (_, Err(wrong)) => writeln!(err, "schedule: {wrong}").map(|()| 2),
+    }
+}
+
+/// Writes the next run of each job in an input, and the errors of the other lines. Returns the exit
+/// status.
+fn write_jobs(
+    text: &str,
+    now: SystemTime,
+    out: &mut impl Write,
+    err: &mut impl Write,
+) -> io::Result<u8> {
     let mut status = 0;
     for (index, line) in text.lines().enumerate() {
         match read_job(line) {
@@ -151,7 +174,6 @@ fn write_runs(
             }
         }
     }
-    write_delays(out, retry)?;
     Ok(status)
 }
 

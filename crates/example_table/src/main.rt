@@ -56,25 +56,38 @@ pub fn run(
                 }
                 total = sum;
             }
-            Err(wrong) => {
-                let marked = marked_line(line, wrong);
-                let number = index + 1;
-                writeln!(err, "example_table: line {number}: {wrong}\n{marked}")?;
-                return Ok(2);
-            }
+            Err(wrong) => return write_wrong(err, index + 1, line, wrong),
         }
     }
-    out.write_all(table_of(alloc, &rows, total)?.as_bytes())?;
-    Ok(0)
+    let table = table_of(alloc, &rows, total)?;
+    out.write_all(table.as_bytes()).map(|()| 0)
+}
+
+/// Writes a line with what is wrong with it, and returns the exit status.
+fn write_wrong(
+    err: &mut impl Write,
+    number: usize,
+    line: &str,
+    wrong: Wrong<'_>,
+) -> io::Result<u8> {
+    let marked = marked_line(line, wrong);
+    writeln!(err, "example_table: line {number}: {wrong}\n{marked}").map(|()| 2)
 }
 
 /// Returns the row of a line, and the sum of its duration and the total so far. The bytes of an
 /// error are counted from the character after the tab.
 fn row_of(line: &str, total: StdDuration) -> Result<(Row<'_>, StdDuration), Wrong<'_>> {
-    let (name, text) = line.split_once('\t').ok_or(Wrong::NoTab)?;
-    let duration = parse_duration(text).map_err(|error| Wrong::Duration(error))?;
-    let sum = total.checked_add(duration).ok_or(Wrong::TotalTooLong)?;
-    Ok((Row { name, duration }, sum))
+    let Some((name, text)) = line.split_once('\t') else {
+        return Err(Wrong::NoTab);
+    };
+    let duration = match parse_duration(text) {
+        Ok(duration) => duration,
+        Err(error) => return Err(Wrong::Duration(error)),
+    };
+    match total.checked_add(duration) {
+        Some(sum) => Ok((Row { name, duration }, sum)),
+        None => Err(Wrong::TotalTooLong),
+    }
 }
 
 /// Returns a line with what is wrong with it.
@@ -105,6 +118,17 @@ fn table_of(alloc: Global, rows: &[Row<'_>], total: StdDuration) -> Result<Strin
             row.name, ""
         )?;
     }
+    write_sums(&mut table, rows, total, width)?;
+    Ok(table)
+}
+
+/// Writes the total, the mean and the longest row below the table, whose names have this width.
+fn write_sums(
+    table: &mut String,
+    rows: &[Row<'_>],
+    total: StdDuration,
+    width: usize,
+) -> Result<(), AllocError> {
     writeln!(
         table,
         "{:<width$}        {}",
@@ -117,5 +141,5 @@ fn table_of(alloc: Global, rows: &[Row<'_>], total: StdDuration) -> Result<Strin
     if let Some(row) = rows.iter().max_by_key(|row| row.duration) {
         writeln!(table, "{:<width$}        {}", "longest", row.name)?;
     }
-    Ok(table)
+    Ok(())
 }

@@ -2,11 +2,11 @@
 
 use crate::row::Row;
 use crate::values::{compare, moment_parts, parts};
-use crate::writing::write_message;
+use crate::writing::{write_message, write_value};
 use crate::{durations, timestamps};
 use humantime::{
-    Date, Duration, StdDuration, SystemTime, Timestamp, Turns, UNIX_EPOCH, canonical, date_of_day,
-    day_number, parse_duration, parse_rfc3339, parse_rfc3339_weak,
+    Date, Duration, StdDuration, SystemTime, Timestamp, Turns, UNIX_EPOCH, date_of_day, day_number,
+    parse_duration, parse_rfc3339, parse_rfc3339_weak,
 };
 use std::fmt::{self, Formatter, Write};
 use std::str::{FromStr, SplitWhitespace};
@@ -17,23 +17,14 @@ pub(crate) fn write_call<W: Write>(f: &mut Formatter<W>, row: Row<'_>) -> Option
     let text = row.text();
     Some(match row.call {
         "duration" => durations::parse(f, text),
-        "canonical" => write!(f, "{:?}", canonical(text, &mut [0; 64])),
+        "canonical" => durations::print_canonical(f, text),
         "spans" => durations::split(f, text),
         "message" => write_message(f, parse_duration(text).err()?, row.wanted, 5),
-        "strict" => write!(f, "{:?}", parse_rfc3339(text).map(|at| moment_parts(at))),
-        "weak" => {
-            let read = parse_rfc3339_weak(text).map(|at| moment_parts(at));
-            write!(f, "{read:?}")
-        }
+        "strict" => timestamps::write_parsed(f, parse_rfc3339(text)),
+        "weak" => timestamps::write_parsed(f, parse_rfc3339_weak(text)),
         "refusal" => write_message(f, parse_rfc3339_weak(text).err()?, row.wanted, 1),
-        "Duration::from_str" => match Duration::from_str(text) {
-            Ok(value) => write!(f, "Ok({:?}), {value}", parts(*value.as_ref())),
-            Err(error) => write!(f, "Err({error:?})"),
-        },
-        "Timestamp::from_str" => match text.parse::<Timestamp>() {
-            Ok(value) => write!(f, "Ok({:?}), {value}", moment_parts(*value.as_ref())),
-            Err(error) => write!(f, "Err({error:?})"),
-        },
+        "Duration::from_str" => durations::parse_wrapper(f, text),
+        "Timestamp::from_str" => timestamps::parse_wrapper(f, text),
         _ => return write_numbered(f, row, &mut row.argument.split_whitespace()),
     })
 }
@@ -45,33 +36,53 @@ fn write_numbered<W: Write>(
     row: Row<'_>,
     numbers: &mut SplitWhitespace<'_>,
 ) -> Option<fmt::Result> {
+    match row.call.split_once("::") {
+        Some(("StdDuration", name)) => write_duration(f, name, numbers),
+        Some(("SystemTime", name)) => write_moment(f, name, numbers),
+        _ => write_plain(f, row, numbers),
+    }
+}
+
+/// Writes the result of a call of no type, or returns `None` if none has this name and these
+/// numbers.
+fn write_plain<W: Write>(
+    f: &mut Formatter<W>,
+    row: Row<'_>,
+    numbers: &mut SplitWhitespace<'_>,
+) -> Option<fmt::Result> {
     Some(match row.call {
         "print" => durations::print(f, duration(numbers)?),
         "misplaced" => durations::misplace(f, number(numbers)?, row.wanted),
-        "day" => write!(f, "{:?}", day_number(date(numbers)?, &mut Turns::new())),
+        "day" => write_value(f, day_number(date(numbers)?, &mut Turns::new())),
         "date" => {
             let date = date_of_day(number(numbers)?, &mut Turns::new());
-            let parts = date.map(|date| (date.year, date.month, date.day));
-            write!(f, "{parts:?}")
+            write_value(f, date.map(|date| (date.year, date.month, date.day)))
         }
-        "UNIX_EPOCH" => write!(f, "{:?}", moment_parts(UNIX_EPOCH)),
-        "SystemTime::from_parts" => {
-            let made = SystemTime::from_parts(number(numbers)?, number(numbers)?);
-            write!(f, "{:?}", made.map(|moment| moment_parts(moment)))
+        "UNIX_EPOCH" => write_value(f, moment_parts(UNIX_EPOCH)),
+        call => timestamps::print(f, call, moment(numbers)?)?,
+    })
+}
+
+/// Writes the result of a call of `SystemTime`, or returns `None` if none has this name and these
+/// numbers.
+fn write_moment<W: Write>(
+    f: &mut Formatter<W>,
+    name: &str,
+    numbers: &mut SplitWhitespace<'_>,
+) -> Option<fmt::Result> {
+    if name == "from_parts" {
+        let made = SystemTime::from_parts(number(numbers)?, number(numbers)?);
+        return Some(write_value(f, made.map(|moment| moment_parts(moment))));
+    }
+    let first = moment(numbers)?;
+    Some(match name {
+        "checked_add" => {
+            let sum = first.checked_add(duration(numbers)?);
+            write_value(f, sum.map(|moment| moment_parts(moment)))
         }
-        "SystemTime::checked_add" => {
-            let sum = moment(numbers)?.checked_add(duration(numbers)?);
-            write!(f, "{:?}", sum.map(|moment| moment_parts(moment)))
-        }
-        "SystemTime::duration_since" => match moment(numbers)?.duration_since(moment(numbers)?) {
-            Ok(later) => write!(f, "Ok({:?})", parts(later)),
-            Err(error) => write!(f, "Err({:?})", parts(error.duration())),
-        },
-        "SystemTime::cmp" => compare::<_, _, Timestamp>(f, moment(numbers)?, moment(numbers)?),
-        call => match call.strip_prefix("StdDuration::") {
-            Some(name) => write_duration(f, name, numbers)?,
-            None => timestamps::print(f, call, moment(numbers)?)?,
-        },
+        "duration_since" => timestamps::subtract(f, first, moment(numbers)?),
+        "cmp" => compare::<_, _, Timestamp>(f, first, moment(numbers)?),
+        _ => return None,
     })
 }
 
@@ -83,20 +94,28 @@ fn write_duration<W: Write>(
     numbers: &mut SplitWhitespace<'_>,
 ) -> Option<fmt::Result> {
     Some(match name {
-        "ZERO" => write!(f, "{:?}", parts(StdDuration::ZERO)),
-        "MAX" => write!(f, "{:?}", parts(StdDuration::MAX)),
-        "default" => write!(f, "{:?}", parts(StdDuration::default())),
         "checked_new" => {
             let made = StdDuration::checked_new(number(numbers)?, number(numbers)?);
-            write!(f, "{:?}", made.map(|value| parts(value)))
+            write_value(f, made.map(|value| parts(value)))
         }
-        "from_secs" => write!(f, "{:?}", parts(StdDuration::from_secs(number(numbers)?))),
-        "from_micros" => write!(f, "{:?}", parts(StdDuration::from_micros(number(numbers)?))),
         "checked_add" => {
             let sum = duration(numbers)?.checked_add(duration(numbers)?);
-            write!(f, "{:?}", sum.map(|value| parts(value)))
+            write_value(f, sum.map(|value| parts(value)))
         }
         "cmp" => compare::<_, _, Duration>(f, duration(numbers)?, duration(numbers)?),
+        _ => write_value(f, parts(new_duration(name, numbers)?)),
+    })
+}
+
+/// Returns a constant, or the duration of one number, or `None` if none has this name and these
+/// numbers.
+fn new_duration(name: &str, numbers: &mut SplitWhitespace<'_>) -> Option<StdDuration> {
+    Some(match name {
+        "ZERO" => StdDuration::ZERO,
+        "MAX" => StdDuration::MAX,
+        "default" => StdDuration::default(),
+        "from_secs" => StdDuration::from_secs(number(numbers)?),
+        "from_micros" => StdDuration::from_micros(number(numbers)?),
         _ => return None,
     })
 }

@@ -2,7 +2,7 @@
 
 use crate::display::compare_formats;
 use crate::values::parts;
-use crate::writing::{Compared, agree, write_result};
+use crate::writing::{Compared, agree, write_result, write_value};
 use humantime::{
     Duration, DurationError, Span, StdDuration, canonical, format_duration, parse_duration, spans,
 };
@@ -25,6 +25,19 @@ pub(crate) fn parse<W: Write>(f: &mut Formatter<W>, text: &str) -> fmt::Result {
             let compared = agree("canonical", is_agreed).and(agree("its buffer", buf == *FILLED));
             write_result(f, Err::<(), _>(error), compared)
         }
+    }
+}
+
+/// Writes the canonical string of a string, or its error.
+pub(crate) fn print_canonical<W: Write>(f: &mut Formatter<W>, text: &str) -> fmt::Result {
+    write_value(f, canonical(text, &mut [0; 64]))
+}
+
+/// Writes the duration that the wrapper parses, also as it prints it, or the error.
+pub(crate) fn parse_wrapper<W: Write>(f: &mut Formatter<W>, text: &str) -> fmt::Result {
+    match Duration::from_str(text) {
+        Ok(value) => write!(f, "Ok({:?}), {value}", parts(*value.as_ref())),
+        Err(error) => write!(f, "Err({error:?})"),
     }
 }
 
@@ -60,23 +73,36 @@ fn compare_prints(value: StdDuration, text: &str) -> Compared {
 pub(crate) fn split<W: Write>(f: &mut Formatter<W>, text: &str) -> fmt::Result {
     let mut items = spans(text);
     for item in items.by_ref() {
-        match item {
-            Ok(span) => write_span(f, span)?,
-            Err(error) => write!(f, "{:?}, ", Err::<(), _>(error))?,
-        }
+        write_item(f, item)?;
     }
     let (first, second, third) = (items.next(), items.next(), items.next());
     write!(f, "{first:?}, {second:?}, {third:?}")
+}
+
+/// Writes an item, and a comma.
+fn write_item<W: Write>(
+    f: &mut Formatter<W>,
+    item: Result<Span<'_>, DurationError<'_>>,
+) -> fmt::Result {
+    match item {
+        Ok(span) => write_span(f, span),
+        Err(error) => write!(f, "{:?}, ", Err::<(), _>(error)),
+    }
 }
 
 /// Writes `Ok((NUMBER, FRACTION, UNIT, START, END, VALUE)), ` for a span, with its strings as they
 /// are: `{:?}` would write escapes.
 fn write_span<W: Write>(f: &mut Formatter<W>, span: Span<'_>) -> fmt::Result {
     write!(f, "Ok((\"{}\", ", span.number())?;
-    match span.fraction() {
-        Some(fraction) => write!(f, "Some(\"{fraction}\")")?,
-        None => f.write_str("None")?,
-    }
+    write_fraction(f, span.fraction())?;
     let (start, end, value) = (span.start(), span.end(), span.value());
     write!(f, ", \"{}\", {start}, {end}, {value})), ", span.unit())
+}
+
+/// Writes `Some(FRACTION)`, or `None`.
+fn write_fraction<W: Write>(f: &mut Formatter<W>, fraction: Option<&str>) -> fmt::Result {
+    match fraction {
+        Some(digits) => write!(f, "Some(\"{digits}\")"),
+        None => f.write_str("None"),
+    }
 }

@@ -63,24 +63,33 @@ impl Tally {
         for call in calls.split('|') {
             for argument in arguments.split(", ") {
                 let row = Row::new(call, argument, wanted, room)?;
-                let link = match (row.holds(), mark.is_empty()) {
-                    (true, true) => {
-                        self.holds = self.holds.saturating_add(1);
-                        continue;
-                    }
-                    (false, false) => {
-                        self.found = self.found.saturating_add(1);
-                        ";"
-                    }
-                    _ => {
-                        self.differs = self.differs.saturating_add(1);
-                        ", but"
-                    }
-                };
-                let gap = if argument.is_empty() { "" } else { " " };
-                println!(rt; "{mark}{call}{gap}{argument} = {wanted}{link} the result is {row}")?;
+                if let Some(link) = self.count(row.holds(), mark.is_empty()) {
+                    let gap = if argument.is_empty() { "" } else { " " };
+                    println!(rt;
+                        "{mark}{call}{gap}{argument} = {wanted}{link} the result is {row}"
+                    )?;
+                }
             }
         }
         Ok(())
+    }
+
+    /// Counts a row. Returns what links it with the library's result in the line that is printed,
+    /// or `None` if no line is.
+    fn count(&mut self, holds: bool, is_right: bool) -> Option<&'static str> {
+        match (holds, is_right) {
+            (true, true) => {
+                self.holds = self.holds.saturating_add(1);
+                None
+            }
+            (false, false) => {
+                self.found = self.found.saturating_add(1);
+                Some(";")
+            }
+            _ => {
+                self.differs = self.differs.saturating_add(1);
+                Some(", but")
+            }
+        }
     }
 }

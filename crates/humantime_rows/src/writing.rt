@@ -11,6 +11,14 @@ pub(crate) fn agree(name: &'static str, holds: bool) -> Compared {
     if holds { Ok(()) } else { Err(name) }
 }
 
+/// Writes a value as `{:?}` does.
+pub(crate) fn write_value<W: Write, T: Debug + Drop>(
+    f: &mut Formatter<W>,
+    value: T,
+) -> fmt::Result {
+    write!(f, "{value:?}")
+}
+
 /// Writes a value as `{:?}` does, followed by the name of a comparison with another call or format
 /// that does not hold, if there is one.
 pub(crate) fn write_result<W: Write, T: Debug + Drop>(
