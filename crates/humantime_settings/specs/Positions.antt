@@ -9,15 +9,16 @@ use Rattle.humantime_settings.specs.declared.error.SettingsError.{SettingsError}
 use Rattle.humantime_settings.specs.declared.error.SettingsError.TheVariants.{At, OutOfMemory}
 use Rattle.humantime_settings.specs.declared.error.SettingsError.TheVariants.{WithoutPosition}
 
--- If the error has a position, this is where a character of the text begins or the text ends, with
--- the number of the line there, and this line in parts: up to the position, what is wrong, and the
--- rest.
+-- The error is that memory runs out, or it has a position. This is where a character of the text
+-- begins or the text ends, with the number of the line there, and this line in parts: up to the
+-- position, what is wrong, and the rest.
 abbrev pub IsErrorIn : List ℕ → SettingsError → Type 0
+IsErrorIn text OutOfMemory = ⊤
 IsErrorIn text (At offset line before part after message) =
     IsCharBoundary text offset × (line ≡ unwrap_or (line_number text offset) 1)
     × (string_bytes before ≡ line_before text offset)
     × (string_bytes part ++ string_bytes after ≡ line_after text offset)
-IsErrorIn text _ = ⊤
+IsErrorIn text (WithoutPosition message) = ⊥
 
 -- The line number of an error that has a position.
 abbrev pub line_of : SettingsError → Option ℕ

@@ -1,8 +1,7 @@
 //! The error of settings, and its position in a string.
 
-ghost use Rattle.std.specs.Prelude.{◌≡◌, ◌≢◌, ◌+◌, IfOk, Ok, Some};
-ghost use Rattle.humantime_settings.specs.Positions.{IsErrorIn, column_of, columns, line_of};
-ghost use Rattle.humantime_settings.specs.Positions.{message_of, printed};
+ghost use Rattle.std.specs.Prelude.{◌≡◌, ◌+◌, IfOk, Some};
+ghost use Rattle.humantime_settings.specs.Positions as spec;
 ghost use Rattle.humantime_settings.specs.declared.error.SettingsError.TheVariants.{OutOfMemory};
 
 use humantime_std::{Escaped, Located, MarkedLine};
@@ -67,7 +66,7 @@ impl SettingsError {
     /// assert_eq!(rt; SettingsError::OutOfMemory.line(), None);
     /// ```
     pub fn line(&self) -> Option<usize>
-        ensures { result ≡ line_of self.now }
+        ensures { result ≡ spec.line_of self.now }
     {
         match self {
             SettingsError::At { line, .. } => Some(*line),
@@ -89,7 +88,7 @@ impl SettingsError {
     /// assert_eq!(rt; SettingsError::OutOfMemory.column(), None);
     /// ```
     pub fn column(&self) -> Option<usize>
-        ensures { result ≡ column_of self.now }
+        ensures { result ≡ spec.column_of self.now }
     {
         match self {
             SettingsError::At { before, .. } => Some(column_after(before.as_str())),
@@ -110,7 +109,7 @@ impl SettingsError {
     /// assert_eq!(rt; SettingsError::OutOfMemory.message(), "out of memory");
     /// ```
     pub fn message(&self) -> &str
-        ensures { result.now ≡ message_of self.now }
+        ensures { result.now ≡ spec.message_of self.now }
     {
         match self {
             SettingsError::OutOfMemory => "out of memory",
@@ -124,7 +123,7 @@ impl SettingsError {
 /// Returns the column after the start of a line, in characters from 1 of which U+FEFF is none.
 #[tactic(auto, using(std::proofs::lemmas::Str::chars_from_encodes))]
 fn column_after(line: &str) -> usize
-    ensures { result ≡ columns line.now + 1 }
+    ensures { result ≡ spec.columns line.now + 1 }
 {
     line.chars().filter(|c| *c != '\u{feff}').count() + 1
 }
@@ -153,7 +152,7 @@ impl From<AllocError> for SettingsError {
 /// assert!(rt; shown.ends_with("\n  \"1s\", \"5µs 7moons\"\n              ^^^^^"));
 /// ```
 impl fmt::Display for SettingsError {
-    ghost output = { λ error. Some (printed error) };
+    ghost output = { λ error. Some (spec.printed error) };
 
     fn fmt<W: fmt::Write>(&self, f: &mut fmt::Formatter<W>) -> fmt::Result {
         let message = Escaped(self.message());
@@ -167,7 +166,6 @@ impl fmt::Display for SettingsError {
         else {
             return write!(f, "{message}");
         };
-        let (before, part, after) = (before.as_str(), part.as_str(), after.as_str());
         let column = column_after(before);
         let marked = MarkedLine {
             before,
@@ -181,13 +179,12 @@ impl fmt::Display for SettingsError {
 impl Error for SettingsError {}
 
 /// Returns an error of a document. It begins where a character begins or the document ends.
-pub(crate) fn error_at(
+pub(crate) fn settings_error(
     alloc: Global,
     text: &str,
     error: Located<String>,
 ) -> Result<SettingsError, AllocError>
-    ensures position { IfOk result (IsErrorIn text.now) }
-    ensures positioned { (message : _) → result ≢ Ok (SettingsError.WithoutPosition message) }
+    ensures { IfOk result (spec.IsErrorIn text.now) }
 {
     let start = text.floor_char_boundary(error.start);
     let end = text.floor_char_boundary(error.end).max(start);

@@ -12,7 +12,7 @@ use std::fmt::{Display, InlineText};
 pub(crate) type Message = InlineText<80>;
 
 /// Creates an error whose end is not known.
-pub(crate) fn error_from(
+pub(crate) fn message_at(
     alloc: Global,
     start: usize,
     message: &str,
@@ -22,7 +22,7 @@ pub(crate) fn error_from(
 }
 
 /// Returns the error of what a document has at this offset.
-pub(crate) fn value_error(
+pub(crate) fn rejection_error(
     alloc: Global,
     document: &str,
     at: usize,
@@ -31,14 +31,12 @@ pub(crate) fn value_error(
 ) -> Result<Located<String>, AllocError> {
     let message = rejection.message(alloc, found)?;
     let Unexpected::Str(text) = found else {
-        return error_from(alloc, at, &message);
+        return message_at(alloc, at, &message);
     };
-    let whole = match whole_error(alloc, &message, parse_duration(text).err())? {
-        None => whole_error(alloc, &message, parse_rfc3339_weak(text).err())?,
-        whole => whole,
-    };
-    let Some(Located { error, start, end }) = whole else {
-        return error_from(alloc, at, &message);
+    let duration = whole_error(alloc, &message, parse_duration(text).err())?;
+    let timestamp = whole_error(alloc, &message, parse_rfc3339_weak(text).err())?;
+    let Some(Located { error, start, end }) = duration.or(timestamp) else {
+        return message_at(alloc, at, &message);
     };
     let (start, end) = raw_range(tail(document, at), text, start, end);
     Ok(Located { error, start, end }.after(at))

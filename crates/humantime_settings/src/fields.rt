@@ -189,7 +189,7 @@ impl<'de, T: Field> Deserialize<'de> for AsText<T> {
     fn deserialize<F: Format>(
         alloc: Global,
         from: &mut Deserializer<'de, '_, F>,
-    ) -> Result<AsText<T>, F::Error> {
+    ) -> Result<Self, F::Error> {
         Ok(AsText(T::read(alloc, from)?))
     }
 }
@@ -198,7 +198,7 @@ impl<T: Field> DeserializeOwned for AsText<T> {
     fn deserialize_owned<F: Format>(
         alloc: Global,
         from: &mut Deserializer<'_, '_, F>,
-    ) -> Result<AsText<T>, F::Error> {
+    ) -> Result<Self, F::Error> {
         Ok(AsText(T::read(alloc, from)?))
     }
 }
@@ -254,7 +254,7 @@ impl<T: Text> Value for Option<T> {
     fn read<F: Format>(
         alloc: Global,
         from: &mut Deserializer<'_, '_, F>,
-    ) -> Result<Option<T>, F::Error> {
+    ) -> Result<Self, F::Error> {
         if from.take_none()? {
             return Ok(None);
         }
@@ -278,17 +278,16 @@ impl<T: Text> Value for Vec<T> {
     fn read<F: Format>(
         alloc: Global,
         from: &mut Deserializer<'_, '_, F>,
-    ) -> Result<Vec<T>, F::Error> {
+    ) -> Result<Self, F::Error> {
         from.begin_seq()?;
         let mut items = Vec::new(alloc);
         for _ in 0..u64::MAX {
             if !from.next_item()? {
                 return Ok(items);
             }
-            match items.push(read_text(alloc, from)?) {
-                Ok(()) => {}
-                Err(_) => return Err(from.no_memory()),
-            }
+            let Ok(()) = items.push(read_text(alloc, from)?) else {
+                return Err(from.no_memory());
+            };
         }
         Err(from.wrong_len())
     }
@@ -313,7 +312,7 @@ impl<T: Text> Value for BTreeMap<String, T> {
     fn read<F: Format>(
         alloc: Global,
         from: &mut Deserializer<'_, '_, F>,
-    ) -> Result<BTreeMap<String, T>, F::Error> {
+    ) -> Result<Self, F::Error> {
         from.begin_map()?;
         let mut entries = BTreeMap::new(alloc);
         for _ in 0..u64::MAX {
@@ -321,10 +320,9 @@ impl<T: Text> Value for BTreeMap<String, T> {
                 return Ok(entries);
             }
             let key = from.string(alloc)?;
-            match entries.insert(key, read_text(alloc, from)?) {
-                Ok(old) => drop(old),
-                Err(_) => return Err(from.no_memory()),
-            }
+            let Ok(_replaced) = entries.insert(key, read_text(alloc, from)?) else {
+                return Err(from.no_memory());
+            };
         }
         Err(from.wrong_len())
     }
@@ -355,8 +353,8 @@ impl Text for StdDuration {
         out.str(format_duration(*self).text(&mut [0; 64]))
     }
 
-    fn parse_text(text: &str) -> Result<StdDuration, Message> {
-        parse_duration(text).map_err(|error| Message::of(error))
+    fn parse_text(text: &str) -> Result<Self, Message> {
+        parse_duration(text).map_err(Message::of)
     }
 }
 
@@ -369,7 +367,7 @@ impl Text for Duration {
         self.as_ref().write_text(out)
     }
 
-    fn parse_text(text: &str) -> Result<Duration, Message> {
+    fn parse_text(text: &str) -> Result<Self, Message> {
         Ok(Duration::new(StdDuration::parse_text(text)?))
     }
 }
@@ -383,7 +381,7 @@ impl Text for time::Duration {
         StdDuration::from_std(*self).write_text(out)
     }
 
-    fn parse_text(text: &str) -> Result<time::Duration, Message> {
+    fn parse_text(text: &str) -> Result<Self, Message> {
         Ok(StdDuration::parse_text(text)?.to_std())
     }
 }
@@ -404,8 +402,8 @@ impl Text for SystemTime {
         }
     }
 
-    fn parse_text(text: &str) -> Result<SystemTime, Message> {
-        parse_rfc3339_weak(text).map_err(|error| Message::of(error))
+    fn parse_text(text: &str) -> Result<Self, Message> {
+        parse_rfc3339_weak(text).map_err(Message::of)
     }
 }
 
@@ -420,7 +418,7 @@ impl Text for Timestamp {
         self.as_ref().write_text(out)
     }
 
-    fn parse_text(text: &str) -> Result<Timestamp, Message> {
+    fn parse_text(text: &str) -> Result<Self, Message> {
         Ok(Timestamp::from(SystemTime::parse_text(text)?))
     }
 }

@@ -1,5 +1,7 @@
 //! What a JSON document has where a path leads.
 
+use crate::json_syntax::{after_entries, after_space, value_of};
+use crate::text::offset_of;
 use json::{MAX_DEPTH, Reader, Scratch, Token};
 use serde_trace::{Part, Rejection, Unexpected};
 use std::alloc::AllocError;
@@ -10,60 +12,28 @@ pub(crate) fn found_at<'a>(
     rejection: &Rejection,
     scratch: &'a mut Scratch,
 ) -> Result<(usize, Unexpected<'a>), AllocError> {
-    let mut reader = Reader::new(document, scratch)?;
-    let (mut offset, mut token) = (0, Token::Bad);
+    let (mut entry, mut value) = (document, after_space(document));
     for number in &rejection.path {
-        (offset, token) = pass_entries(&mut reader, *number);
+        entry = pass_entries(value, *number).0;
+        value = after_space(value_of(entry, value.starts_with('{')).unwrap_or(entry));
     }
-    match rejection.part {
-        Part::Key => {}
-        Part::Value => (offset, token) = (reader.offset(), reader.next().unwrap_or(Token::Bad)),
-        Part::End => (offset, token) = pass_entries(&mut reader, usize::MAX),
-    }
-    let found = match token {
-        Token::String(text) | Token::Key(text) => Unexpected::Str(text),
-        Token::Number(digits) => Unexpected::Number(digits),
-        Token::Bool(b) => Unexpected::Bool(b),
-        Token::Null => Unexpected::Null,
-        Token::BeginArray => Unexpected::Seq(items_left(&mut reader)),
+    let rest = match rejection.part {
+        Part::Key => entry,
+        Part::Value => value,
+        Part::End => pass_entries(value, usize::MAX).0,
+    };
+    let found = match Reader::new(rest, scratch)?.next() {
+        Some(Token::String(text) | Token::Key(text)) => Unexpected::Str(text),
+        Some(Token::Number(digits)) => Unexpected::Number(digits),
+        Some(Token::Bool(b)) => Unexpected::Bool(b),
+        Some(Token::Null) => Unexpected::Null,
+        Some(Token::BeginArray) => Unexpected::Seq(pass_entries(rest, usize::MAX).1),
         _ => Unexpected::Map,
     };
-    Ok((offset, found))
+    Ok((offset_of(document, rest), found))
 }
 
-/// Opens an object or an array, and passes so many members or items, or all. Returns the key or the
-/// bracket that follows, if one does, or another value.
-fn pass_entries<'a>(reader: &mut Reader<'a>, count: usize) -> (usize, Token<'a>) {
-    let start = reader.offset();
-    let is_object = match reader.next() {
-        Some(Token::BeginObject) => true,
-        Some(Token::BeginArray) => false,
-        token => return (start, token.unwrap_or(Token::Bad)),
-    };
-    for passed in 0..=count {
-        let offset = reader.offset();
-        let token = if is_object {
-            reader.next()
-        } else {
-            reader.take_end_array().then_some(Token::EndArray)
-        };
-        match token {
-            Some(Token::Key(_)) | None if passed < count => {}
-            _ => return (offset, token.unwrap_or(Token::Bad)),
-        }
-        if reader.skip_value(MAX_DEPTH).is_err() {
-            break;
-        }
-    }
-    (reader.offset(), Token::Bad)
-}
-
-/// Returns how many items are left of an array.
-fn items_left(reader: &mut Reader<'_>) -> usize {
-    for count in 0..usize::MAX {
-        if reader.take_end_array() || reader.skip_value(MAX_DEPTH).is_err() {
-            return count;
-        }
-    }
-    usize::MAX
+/// Passes members or items, as [`after_entries`] does. Another value has none.
+fn pass_entries(value: &str, count: usize) -> (&str, usize) {
+    after_entries(value, count, MAX_DEPTH).unwrap_or((value, 0))
 }

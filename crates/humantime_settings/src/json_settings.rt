@@ -1,14 +1,14 @@
 //! Settings in JSON, and the position of an error in them.
 
-ghost use Rattle.std.specs.Prelude.{◌≡◌, ◌≢◌, [], IfErr, IfOk, Some, false, string_bytes};
+ghost use Rattle.std.specs.Prelude.{◌≡◌, [], IfErr, IfOk, Some, false, string_bytes};
 ghost use Rattle.json.specs.Layout.{pretty};
 ghost use Rattle.json.specs.Lex.{tokens};
 ghost use Rattle.serde.specs.Event.{Log};
 ghost use Rattle.serde_json.specs.Sent.{AreTokensOf};
 ghost use Rattle.humantime_settings.specs.Positions.{IsErrorIn, line_of};
 
-use crate::error::{SettingsError, error_at};
-use crate::error_range::{error_from, value_error};
+use crate::error::{SettingsError, settings_error};
+use crate::error_range::{message_at, rejection_error};
 use crate::json_positions::found_at;
 use crate::json_syntax::syntax_error;
 use crate::text::offset_of;
@@ -52,8 +52,7 @@ use std::alloc::{AllocError, Global};
 /// assert_eq!(rt; error.to_string(rt.alloc())?.as_str(), shown);
 /// ```
 pub fn from_json<T: DeserializeOwned>(alloc: Global, text: &str) -> Result<T, SettingsError>
-    ensures position { IfErr result (IsErrorIn text.now) }
-    ensures positioned { (message : _) → result ≢ Err (SettingsError.WithoutPosition message) }
+    ensures { IfErr result (IsErrorIn text.now) }
 {
     let refused = match serde_json::from_str::<Owned<T>>(alloc, text) {
         Ok(Owned(value)) => return Ok(value),
@@ -63,12 +62,11 @@ pub fn from_json<T: DeserializeOwned>(alloc: Global, text: &str) -> Result<T, Se
         Ok(Traced(Err(rejection))) => {
             let mut scratch = Scratch::new(alloc);
             let (at, found) = found_at(text, &rejection, &mut scratch)?;
-            value_error(alloc, text, at, &rejection, found)?
+            rejection_error(alloc, text, at, &rejection, found)?
         }
-        Ok(Traced(Ok(_value))) => document_error(alloc, text, &refused)?,
-        Err(error) => document_error(alloc, text, &error)?,
+        read => json_error(alloc, text, &read.err().unwrap_or(refused))?,
     };
-    Err(error_at(alloc, text, error)?)
+    Err(settings_error(alloc, text, error)?)
 }
 
 /// A value that borrows nothing, as `serde_json` reads it.
@@ -114,7 +112,7 @@ pub fn to_json<T: Serialize>(alloc: Global, value: &T) -> Result<String, Setting
 }
 
 /// Returns the error of a document that is not JSON, or has a number that is out of range.
-fn document_error(
+fn json_error(
     alloc: Global,
     text: &str,
     error: &serde_json::Error,
@@ -122,12 +120,12 @@ fn document_error(
     if error.is_memory() {
         return Err(AllocError);
     }
-    if let Some((at, message)) = syntax_error(alloc, text)? {
-        return error_from(alloc, at, message);
+    if let Some((at, message)) = syntax_error(text) {
+        return message_at(alloc, at, message);
     }
     let said = error.to_string(alloc)?;
-    let message = said.split(" at line ").next().unwrap_or("");
+    let message = said.rsplit_once(" at line ").map_or("", |parts| parts.0);
     let line = text.splitn(error.line(), '\n').last().unwrap_or("");
     let at = offset_of(text, line).saturating_add(error.column().saturating_sub(1));
-    error_from(alloc, at, message)
+    message_at(alloc, at, message)
 }

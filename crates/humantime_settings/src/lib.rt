@@ -1,5 +1,5 @@
 //! Settings with durations and timestamps as strings: `serde` reads and writes them in JSON, TOML
-//! or another format. Errors of reading JSON or TOML have a position.
+//! or another format.
 //!
 //! - [`#[serde(with = "humantime_settings")]`](Field) marks a field of a type that derives
 //!   `Serialize` or `Deserialize`: a duration, a timestamp, or a list or a map of these. An

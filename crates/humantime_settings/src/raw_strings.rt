@@ -10,8 +10,10 @@ pub(crate) fn raw_range(document: &str, text: &str, start: usize, end: usize) ->
     let (first, last) = if document.starts_with('\'') {
         (tail(content, start), tail(content, end))
     } else {
-        let first = after_folds(after(content, text, start));
-        (first, after(content, text, end))
+        (
+            after_folds(after(content, text, start)),
+            after(content, text, end),
+        )
     };
     let first = offset_of(document, first);
     (first, offset_of(document, last).max(first))

@@ -1,6 +1,6 @@
 //! The position in a TOML document to which a path leads.
 
-use crate::text::{first_where, offset_of, tail};
+use crate::text::{offset_of, tail};
 use std::alloc::{AllocError, Global};
 use toml::Value;
 use toml_parser::text::{first, skip_blank, skip_ws};
@@ -13,13 +13,16 @@ pub(crate) enum Step<'a> {
     Item(usize),
 }
 
-/// The document from the last part of a key on, and from its value on. That of a header is the
-/// header, and that of a part which other parts follow is the part. An item of an array has no key,
-/// but its value twice.
-pub(crate) type Entry<'a> = (&'a str, &'a str);
+/// Where an entry or an item begins.
+#[derive(Drop)]
+pub(crate) struct Entry<'a> {
+    /// The document from the last part of its key on, or from the item.
+    pub(crate) key: &'a str,
+    /// The document from its value on, or from the header or the part of a key that makes it.
+    pub(crate) value: &'a str,
+}
 
-/// What is left of the path after a table or a key that it leads through, or `None` for one that
-/// it does not lead through.
+/// What is left of the path after a table or a key, or `None` if it does not lead through it.
 type StepsLeft<'a> = Option<&'a [Step<'a>]>;
 
 /// A walk through a document that `toml` has read, along a path.
@@ -30,10 +33,10 @@ struct Walk<'a> {
     rest: &'a str,
     /// What is left of the path in the table that is open.
     left: StepsLeft<'a>,
-    /// For each number of steps that can be left, how many headers in two brackets led there.
+    /// For each number of steps that can be left, how many headers led there.
     item_counts: Vec<usize>,
     /// The first part of a longer key that makes the table where the path ends.
-    implied: Option<Entry<'a>>,
+    implied: Option<&'a str>,
 }
 
 /// Returns the entry to which a path leads, which is one in the document's values. A table that has
@@ -53,78 +56,67 @@ pub(crate) fn entry_of<'a>(
         item_counts: vec![in alloc; 0; path.len() + 1]?,
         implied: None,
     };
-    // Each step passes at least one character.
+    // Each header or entry has at least one character.
     for _ in 0..document.len() {
-        if let Some(entry) = walk.step()? {
+        let rest = next_item(walk.rest);
+        let found = match first(rest) {
+            0 | b'}' => break,
+            b'[' => walk.header(rest)?,
+            _ => walk.entry(rest)?,
+        };
+        if let Some(entry) = found {
             return Ok(entry);
         }
     }
-    Ok((document, document))
+    let key = walk.implied.unwrap_or(document);
+    Ok(Entry { key, value: key })
 }
 
 impl<'a> Walk<'a> {
-    /// Passes a header or an entry of a table. Returns the entry where the path ends if it is
-    /// found.
-    fn step(&mut self) -> Result<Option<Entry<'a>>, AllocError> {
-        let rest = next_item(self.rest);
-        match first(rest) {
-            // No other key makes the table.
-            0 | b'}' => Ok(self.implied),
-            b'[' => self.header(rest),
-            _ => self.entry(rest),
-        }
-    }
-
-    /// Passes a header.
+    /// Passes a header. Returns its entry if the path ends there.
     fn header(&mut self, header: &'a str) -> Result<Option<Entry<'a>>, AllocError> {
-        let name = header.trim_start_matches(['[', ' ', '\t']);
-        let (left, key, rest) = self.key(name, Some(self.path))?;
-        self.rest = rest.trim_start_matches(|c: char| c != '\n');
-        if header.starts_with("[[")
-            && let Some(steps) = left
+        let (left, key) = self.key(header, Some(self.path))?;
+        self.rest = self.rest.trim_start_matches(|c: char| c != '\n');
+        if let Some(steps) = left
             && let Some(count) = self.item_counts.get_mut(steps.len())
         {
             *count = count.saturating_add(1);
         }
         self.left = self.in_last_item(left);
-        Ok(matches!(self.left, Some([])).then_some((key, header)))
+        Ok(matches!(self.left, Some([])).then_some(Entry { key, value: header }))
     }
 
     /// Passes an entry of the table that is open, or goes into its inline table if the path leads
-    /// there.
+    /// there. Returns the entry or the item where the path ends.
     fn entry(&mut self, entry: &'a str) -> Result<Option<Entry<'a>>, AllocError> {
-        let (left, key, rest) = self.key(entry, self.left)?;
-        let mut found = (key, skip_ws(tail(rest, 1)));
+        let (left, mut key) = self.key(entry, self.left)?;
+        let mut value = skip_ws(tail(self.rest, 1));
         let Some(mut left) = left else {
-            self.rest = after_value(self.alloc, found.1)?;
+            self.rest = after_value(self.alloc, value)?;
             return Ok(None);
         };
         for _ in 0..self.path.len() {
-            let ([Step::Item(number), later @ ..], b'[') = (left, first(found.1)) else {
+            let [Step::Item(number), later @ ..] = left else {
                 break;
             };
-            let item = item_of(self.alloc, found.1, *number)?;
-            (found, left) = ((item, item), later);
+            value = item_of(self.alloc, value, *number)?;
+            (key, left) = (value, later);
         }
-        // Steps can be left: a date-time is an object in JSON.
-        if left.is_empty() || first(found.1) != b'{' {
-            return Ok(Some(found));
-        }
-        (self.left, self.rest) = (Some(left), tail(found.1, 1));
-        Ok(None)
+        (self.left, self.rest) = (Some(left), tail(value, 1));
+        Ok(left.is_empty().then_some(Entry { key, value }))
     }
 
-    /// Passes a key. Returns what is left of the path after it, the document from its last part
-    /// on, and the document after it.
+    /// Passes a key. Returns what is left of the path after it, and the document from its last part
+    /// on.
     fn key(
         &mut self,
         key: &'a str,
         mut left: StepsLeft<'a>,
-    ) -> Result<(StepsLeft<'a>, &'a str, &'a str), AllocError> {
-        let (mut part, mut rest) = (key, key);
-        for _ in 0..key.len() {
-            let (name, after_name) = name_at(self.alloc, part)?;
-            rest = after_name;
+    ) -> Result<(StepsLeft<'a>, &'a str), AllocError> {
+        let mut part = key.trim_start_matches(['[', ' ', '\t']);
+        for _ in 0..RECURSION_LIMIT {
+            let (name, rest) = name_at(self.alloc, part)?;
+            self.rest = rest;
             left = match self.in_last_item(left) {
                 Some([Step::Key(key), later @ ..]) if *key == name.as_str() => Some(later),
                 _ => None,
@@ -133,11 +125,11 @@ impl<'a> Walk<'a> {
                 break;
             }
             if let Some([]) = left {
-                self.implied = self.implied.or(Some((part, part)));
+                self.implied = self.implied.or(Some(part));
             }
             part = skip_ws(tail(rest, 1));
         }
-        Ok((left, part, rest))
+        Ok((left, part))
     }
 
     /// Goes into the last item that a header has begun, if the path leads into an array of tables.
@@ -146,46 +138,56 @@ impl<'a> Walk<'a> {
         let [Step::Item(number), later @ ..] = steps else {
             return left;
         };
-        let last = self.item_counts.get(steps.len())?.checked_sub(1)?;
-        (last == *number).then_some(later)
+        (*self.item_counts.get(steps.len())? == number.saturating_add(1)).then_some(later)
     }
 }
 
-/// Returns the offset of the part at which the key at an offset, which can be that of a header,
-/// cannot be defined: the first that cannot be extended, or else the last.
+/// Returns the offset of the wrong part of the key or the header at an offset: the first that cannot
+/// be extended, or else the last.
 pub(crate) fn wrong_part(alloc: Global, document: &str, at: usize) -> Result<usize, AllocError> {
-    let key = tail(document, at).trim_start_matches(['[', ' ', '\t']);
-    let (mut parts, mut rest, mut part) = (Vec::new(alloc), key, key);
+    // No key of the document is as long.
+    let fresh = "x".repeat(alloc, document.len())?;
+    let mut parts = parts_of(alloc, tail(document, at))?;
+    let mut wrong = parts.pop().unwrap_or("");
     for _ in 0..RECURSION_LIMIT {
-        rest = name_at(alloc, part)?.1;
-        parts.push((offset_of(document, part), offset_of(document, rest)))?;
+        let Some(part) = parts.pop() else {
+            break;
+        };
+        let front = document.get(..offset_of(document, wrong)).unwrap_or("");
+        let rest = name_at(alloc, wrong)?.1;
+        let text = format!(in alloc; "{front}{fresh}{rest}")?;
+        match toml::table_from_str(alloc, &text) {
+            Err(error) if error.span().ok_or(AllocError)?.start == at => wrong = part,
+            _ => break,
+        }
+    }
+    Ok(offset_of(document, wrong))
+}
+
+/// Returns the document from each part of a key on.
+fn parts_of(alloc: Global, key: &str) -> Result<Vec<&str>, AllocError> {
+    let mut parts = Vec::new(alloc);
+    let mut part = key.trim_start_matches(['[', ' ', '\t']);
+    for _ in 0..RECURSION_LIMIT {
+        parts.push(part)?;
+        let rest = name_at(alloc, part)?.1;
         if first(rest) != b'.' {
             break;
         }
         part = skip_ws(tail(rest, 1));
     }
-    // No key of the document is as long.
-    let fresh = "x".repeat(alloc, document.len())?;
-    // A part after one that cannot be extended cannot be extended either.
-    let wrong = first_where(parts.len().saturating_sub(1), |number| {
-        let end = parts.get(number).map_or(at, |part| part.1);
-        let front = document.get(..end).unwrap_or("");
-        let text = format!(in alloc; "{front}.{fresh}{rest}")?;
-        Ok(error_start(toml::table_from_str(alloc, &text))? == Some(at))
-    })?;
-    Ok(parts.get(wrong).map_or(at, |part| part.0))
+    Ok(parts)
 }
 
 /// Returns the part of a key at the front, and the document after it and blanks.
 fn name_at(alloc: Global, front: &str) -> Result<(String, &str), AllocError> {
-    if starts_string(front) {
-        let (name, rest) = quoted(alloc, front).map_err(|_| AllocError)?;
-        return Ok((name, skip_ws(rest)));
-    }
-    let end = front.find(['.', '=', ']', ' ', '\t']);
-    let name = front.get(..end.unwrap_or(front.len())).unwrap_or("");
-    let rest = skip_ws(tail(front, name.len()));
-    Ok((String::from_str(alloc, name)?, rest))
+    let (name, rest) = if starts_string(front) {
+        quoted(alloc, front).map_err(|_| AllocError)?
+    } else {
+        let name = front.split(['.', '=', ']', ' ', '\t']).next().unwrap_or("");
+        (String::from_str(alloc, name)?, tail(front, name.len()))
+    };
+    Ok((name, skip_ws(rest)))
 }
 
 /// Returns the document from an item of the array at the front on.
@@ -205,14 +207,8 @@ fn next_item(rest: &str) -> &str {
 
 /// Returns the document after the value at the front, where `toml` finds more than a value.
 fn after_value(alloc: Global, value: &str) -> Result<&str, AllocError> {
-    let end = error_start(Value::from_str(alloc, value))?;
-    Ok(tail(value, end.unwrap_or(value.len())))
-}
-
-/// Returns the offset of an error, if there is one.
-fn error_start<T: Drop>(read: Result<T, toml::de::Error>) -> Result<Option<usize>, AllocError> {
-    match read {
-        Ok(_) => Ok(None),
-        Err(error) => Ok(Some(error.span().ok_or(AllocError)?.start)),
+    match Value::from_str(alloc, value) {
+        Ok(_) => Ok(""),
+        Err(error) => Ok(tail(value, error.span().ok_or(AllocError)?.start)),
     }
 }

@@ -1,15 +1,15 @@
 //! Settings in TOML, and the position of an error in them.
 
-ghost use Rattle.std.specs.Prelude.{◌≡◌, ◌≢◌, IfErr, IfOk, IsSome, Ok, OnOk};
+ghost use Rattle.std.specs.Prelude.{◌≡◌, IfErr, IsSome, OnOk};
 ghost use Rattle.toml.specs.Parse.{parse_document};
 ghost use Rattle.humantime_settings.specs.Positions.{IsErrorIn, line_of};
 
-use crate::error::{SettingsError, error_at};
-use crate::error_range::{error_from, value_error};
+use crate::error::{SettingsError, settings_error};
+use crate::error_range::{message_at, rejection_error};
 use crate::text::{offset_of, tail};
 use crate::toml_positions::{Step, entry_of, wrong_part};
 use humantime_std::located::Located;
-use serde::{DeserializeOwned, Deserializer, Format, Kind, Serialize};
+use serde::{DeserializeOwned, Kind, Serialize};
 use serde_trace::{Cause, Part, Rejection, Traced, Unexpected};
 use std::alloc::{AllocError, Global};
 use toml::Value;
@@ -56,46 +56,16 @@ use toml_parser::ErrorKind;
 pub fn from_toml<T: DeserializeOwned>(alloc: Global, text: &str) -> Result<T, SettingsError>
     ensures document { OnOk result (IsSome (parse_document text.now)) }
     ensures position { IfErr result (IsErrorIn text.now) }
-    ensures positioned { (message : _) → result ≢ Err (SettingsError.WithoutPosition message) }
 {
-    let error = match toml::from_str::<Tried<T>>(alloc, text) {
-        Ok(Tried(Ok(value))) => return Ok(value),
-        Ok(Tried(Err(rejection))) => {
-            let table = toml::table_from_str(alloc, text).map_err(|_| AllocError)?;
-            rejected(alloc, text, &Value::Table(table), rejection)?
-        }
-        Err(error) => document_error(alloc, text, error)?,
+    let refused = match toml::from_str(alloc, text) {
+        Ok(value) => return Ok(value),
+        Err(error) => error,
     };
-    Err(error_at(alloc, text, error)?)
-}
-
-/// A value that is read at once, or traced if it is rejected.
-#[derive(Drop)]
-struct Tried<T>(Result<T, Rejection>);
-
-impl<T: DeserializeOwned> DeserializeOwned for Tried<T> {
-    fn deserialize_owned<F: Format>(
-        alloc: Global,
-        from: &mut Deserializer<'_, '_, F>,
-    ) -> Result<Tried<T>, F::Error> {
-        let start = from.mark();
-        let error = match T::deserialize_owned(alloc, from) {
-            Ok(value) => return Ok(Tried(Ok(value))),
-            Err(error) => error,
-        };
-        if from.is_fatal(&error) {
-            return Err(error);
-        }
-        from.rewind(start);
-        // Until another key is read, `toml` takes the last variant's data for a unit.
-        from.begin_map()?;
-        from.next_key(&[])?;
-        from.rewind(start);
-        match Traced::<T>::deserialize_owned(alloc, from)? {
-            Traced(Ok(_value)) => Err(error),
-            Traced(Err(rejection)) => Ok(Tried(Err(rejection))),
-        }
-    }
+    let error = match toml::from_str::<Traced<T>>(alloc, text) {
+        Ok(Traced(Err(rejection))) => rejected(alloc, text, rejection)?,
+        read => toml_error(alloc, text, read.err().unwrap_or(refused))?,
+    };
+    Err(settings_error(alloc, text, error)?)
 }
 
 /// Writes settings in TOML.
@@ -127,34 +97,38 @@ pub fn to_toml<T: Serialize>(alloc: Global, value: &T) -> Result<String, Setting
 }
 
 /// Returns the error of a document that is not TOML.
-fn document_error(alloc: Global, text: &str, error: Error) -> Result<Located<String>, AllocError> {
+fn toml_error(alloc: Global, text: &str, error: Error) -> Result<Located<String>, AllocError> {
     let span = error.span().ok_or(AllocError)?;
-    let (start, word) = (span.start, text.get(span).unwrap_or(""));
-    let is = |kind: ErrorKind| error.message() == kind.description();
-    if is(ErrorKind::DuplicateKey) || is(ErrorKind::Extend) {
-        return error_from(alloc, wrong_part(alloc, text, start)?, error.message());
+    let (start, word, message) = (span.start, text.get(span).unwrap_or(""), error.message());
+    if message == ErrorKind::Value.description()
+        && let Some((first, _)) = word.split_once(' ')
+    {
+        // After one space `toml` expects a time, and not after two.
+        let space = start.saturating_add(first.len());
+        let (front, rest) = (text.get(..space).unwrap_or(""), tail(text, space));
+        let apart = format!(in alloc; "{front} {rest}")?;
+        let error = toml::table_from_str(alloc, &apart).err().ok_or(AllocError)?;
+        let start = error.span().ok_or(AllocError)?.start;
+        let at = start.saturating_sub(usize::from(start > space));
+        return message_at(alloc, at, error.message());
     }
-    let (true, Some((first, _))) = (is(ErrorKind::Value), word.split_once(' ')) else {
-        return error_from(alloc, start, error.message());
-    };
-    // After one space `toml` expects a time, and not after two.
-    let space = start.saturating_add(first.len());
-    let (front, rest) = (text.get(..space).unwrap_or(""), tail(text, space));
-    let apart = format!(in alloc; "{front} {rest}")?;
-    let error = toml::table_from_str(alloc, &apart).err().ok_or(AllocError)?;
-    let start = error.span().ok_or(AllocError)?.start;
-    let at = start.saturating_sub(usize::from(start > space));
-    error_from(alloc, at, error.message())
+    let mut at = start;
+    if message == ErrorKind::DuplicateKey.description()
+        || message == ErrorKind::Extend.description()
+    {
+        at = wrong_part(alloc, text, start)?;
+    }
+    message_at(alloc, at, message)
 }
 
 /// Returns the error of a value.
 fn rejected(
     alloc: Global,
     text: &str,
-    values: &Value,
     mut rejection: Rejection,
 ) -> Result<Located<String>, AllocError> {
-    let (steps, value) = way(alloc, values, &rejection.path)?;
+    let values = Value::Table(toml::table_from_str(alloc, text).map_err(|_| AllocError)?);
+    let (steps, value) = way(alloc, &values, &rejection.path)?;
     if matches!(value, Value::Datetime(_))
         && (steps.len() < rejection.path.len() || rejection.part == Part::End)
     {
@@ -166,12 +140,12 @@ fn rejected(
         Some(Step::Key(key)) if rejection.part == Part::Key => Unexpected::Str(key),
         _ => described(value),
     };
-    let (key, value) = entry_of(alloc, text, &steps)?;
+    let entry = entry_of(alloc, text, &steps)?;
     let rest = match rejection.part {
-        Part::Key => key,
-        _ => value,
+        Part::Key => entry.key,
+        _ => entry.value,
     };
-    value_error(alloc, text, offset_of(text, rest), &rejection, found)
+    rejection_error(alloc, text, offset_of(text, rest), &rejection, found)
 }
 
 /// Returns the steps of a path, at most to a date-time, and the value there.
@@ -184,7 +158,7 @@ fn way<'a>(
     for number in path {
         let (step, inner) = match value {
             Value::Table(table) => match table.iter().nth(*number) {
-                Some((key, inner)) => (Step::Key(key.as_str()), inner),
+                Some((key, inner)) => (Step::Key(key), inner),
                 None => break,
             },
             Value::Array(items) => match items.get(*number) {
@@ -202,7 +176,7 @@ fn way<'a>(
 /// Describes a value.
 fn described(value: &Value) -> Unexpected<'_> {
     match value {
-        Value::String(text) => Unexpected::Str(text.as_str()),
+        Value::String(text) => Unexpected::Str(text),
         Value::Integer(n) => Unexpected::Integer(*n),
         Value::Float(x) => Unexpected::Float(*x),
         Value::Boolean(b) => Unexpected::Bool(*b),

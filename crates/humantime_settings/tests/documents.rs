@@ -604,6 +604,7 @@ const OF_KEYS: &[Row<'static>] = &[
             "waits = { '1~' = '1s', '1s' = '1^~^' }",
             "numbers = [{ 5 = '1s' }, { 5 = '1^~^' }]",
             "numbers = [{ '+5' = '1s' }, { '+5' = '1^~^' }]",
+            "numbers = [{ 5 = '1s' } # ,\n, { 5 = '1^~^' }]",
         ],
     ),
     (
@@ -619,6 +620,7 @@ const OF_KEYS: &[Row<'static>] = &[
             "[part.more]\n^[part]\nname = 'a'\n",
             "[[outers]]\npart.name = 'a'\npart.every = '1s'\n[[outers]]\n^part.name = 'b'\n",
             "[[outers]]\n^part.name = 'a'\n[[outers]]\npart.every = '1s'\n",
+            "[[outers]]\n^part.name = 'a'\n[[outers]]\n[outers.part]\nevery = '1s'\n",
             "outers = [{ part.every = '1s' }, { ^part.name = 'b', part.x = 1 }]",
             "[[outers]]\npart.every = '1s'\n[[outers.inner]]\nevery = '1s'\n[[outers.inner]]\n\
             every = '2s'\n[[outers]]\npart.every = '1s'\n[[outers.inner]]\nevery = '3s'\n\

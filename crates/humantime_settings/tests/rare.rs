@@ -1,7 +1,8 @@
 //! Documents that stop being JSON or TOML at a rare byte, and marks at rare escapes and keys.
 
 use crate::support::{Row, Wait, assert_errors, reads};
-use serde::Deserialize;
+use serde::{Deserialize, DeserializeOwned, Deserializer, Format};
+use std::alloc::Global;
 use std::collections::BTreeMap;
 use std::test::Fail;
 
@@ -25,6 +26,25 @@ enum Limit {
 #[derive(Debug, Drop, Deserialize)]
 enum Variant {
     Most(u32),
+}
+
+/// A value that cannot be borrowed. A string that can be has an error of the format alone.
+#[derive(Debug, Drop)]
+struct Unborrowed;
+
+impl DeserializeOwned for Unborrowed {
+    fn deserialize_owned<F: Format>(
+        _alloc: Global,
+        from: &mut Deserializer<'_, '_, F>,
+    ) -> Result<Unborrowed, F::Error> {
+        let start = from.mark();
+        if from.borrowed_str().is_ok() {
+            return Err(from.custom("no at line 7"));
+        }
+        from.rewind(start);
+        from.skip()?;
+        Ok(Unborrowed)
+    }
 }
 
 /// What is not JSON, marked at the first byte that no JSON has there, or the start of a wrong word
@@ -72,6 +92,7 @@ const NO_JSON: &[Row<'static>] = &[
         &[
             "{\"a\":\"1 ^\t2\"}",
             "{\"a\":\"é^\n\"}",
+            "{\"a\":\"\u{7f}^\t\"}",
             "{\"a\":\"^\u{1f}\"}",
             "{\"a^\u{0}\":1}",
             r#"{"a":"\^q"}"#,
@@ -79,6 +100,9 @@ const NO_JSON: &[Row<'static>] = &[
             r#"{"\^a":1}"#,
             r#"{"a":"\^u12x4"}"#,
             r#"{"a":"\^u+123"}"#,
+            r#"{"a":"\^u-123"}"#,
+            r#"{"a":"\ud800\udc00\^udc"#,
+            r#"{"a":"\^ud800\u0"#,
             r#"{"a":"\^ud800"}"#,
             r#"{"a":"\^udbff\u0041"}"#,
             r#"{"a":"\^udc00"}"#,
@@ -237,6 +261,7 @@ const NO_TOML: &[Row<'static>] = &[
             "''.\"\" = 1\n\"\".^'' = 2",
             "['']\n[^\"\"]\n",
             "[x]\nx = 1\n\n^x = 2",
+            "a.b = 1\na.^b = 2\n]",
         ],
     ),
     (
@@ -284,6 +309,7 @@ const ESCAPES: &[Row<'static>] = &[
         "invalid character at 4",
         &[
             r#"{"wait":"\u30001^~^"}"#,
+            "{\"wait\":\"\u{3000}1^~^\"}",
             r#"wait = "\u30001^~^""#,
             r#"wait = "\U000030001^~^""#,
         ],
@@ -316,6 +342,7 @@ const ESCAPES: &[Row<'static>] = &[
             r#"{"a":«[*126»«]*126»,"wait":"1^~^"}"#,
             r#"{"a":[{},[],[[]],{"":{}}],"wait":"1^~^"}"#,
             "a = 1979-05-27 07:32:00\nwait = '1^~^'",
+            "wait\t= '1^~^'",
             "a = [1979-05-27 07:32:00, 1]\nwait = '1^~^'",
         ],
     ),
@@ -339,4 +366,10 @@ fn no_toml(rt: HostRuntime) -> Result<(), Fail> {
 #[test]
 fn escapes(rt: HostRuntime) -> Result<(), Fail> {
     assert_errors(&rt, reads!(Settings), &[], ESCAPES)
+}
+
+#[test]
+fn borrowed_strings(rt: HostRuntime) -> Result<(), Fail> {
+    let rows: &[Row<'_>] = &[("no at line 7", &[r#"{"a":^"x"}"#])];
+    assert_errors(&rt, reads!(BTreeMap<String, Unborrowed>), &[], rows)
 }

@@ -21,34 +21,32 @@ impl Rejection {
             Unexpected::Seq(len) => ("", len),
             _ => ("", 0),
         };
-        let (what, expected, more) = match &self.cause {
-            Cause::Message(message) if message.is_empty() => {
-                return String::from_str(alloc, "invalid value");
-            }
-            Cause::Message(message) => return String::from_str(alloc, message.as_str()),
-            Cause::Missing(key) => return named(alloc, "missing field", key, ""),
-            Cause::Duplicate => return named(alloc, "duplicate field", name, ""),
-            Cause::UnknownField(expected) => return named(alloc, "unknown field", name, expected),
+        match &self.cause {
+            Cause::Message(said) if said.is_empty() => String::from_str(alloc, "invalid value"),
+            Cause::Message(said) => String::from_str(alloc, said),
+            Cause::Missing(key) => format!(in alloc; "missing field `{key}`"),
+            Cause::Duplicate => format!(in alloc; "duplicate field `{name}`"),
+            Cause::UnknownField(expected) => format!(in alloc; "unknown field `{name}`{expected}"),
             Cause::UnknownVariant(expected) => {
-                return named(alloc, "unknown variant", name, expected);
+                format!(in alloc; "unknown variant `{name}`{expected}")
             }
-            Cause::Length => return format!(in alloc; "invalid length {len}"),
+            Cause::Length => format!(in alloc; "invalid length {len}"),
             Cause::Long(size) => {
-                return format!(in alloc; "invalid length {len}, expected a tuple of size {size}");
+                format!(in alloc; "invalid length {len}, expected a tuple of size {size}")
             }
-            Cause::Range => ("value", "an integer", " in range"),
-            Cause::Expected(Kind::Signed, expected) if found.is(Kind::Signed) => {
-                ("value", expected.as_str(), " in range")
+            Cause::Range => {
+                format!(in alloc; "invalid value: {found}, expected an integer in range")
             }
-            Cause::Expected(kind, expected) if found.is(*kind) => ("value", expected.as_str(), ""),
-            Cause::Expected(_, expected) => ("type", expected.as_str(), ""),
-        };
-        format!(in alloc; "invalid {what}: {found}, expected {expected}{more}")
+            Cause::Expected(kind, expected) => {
+                let (what, more) = match kind {
+                    Kind::Signed if found.is(*kind) => ("value", " in range"),
+                    kind if found.is(*kind) => ("value", ""),
+                    _ => ("type", ""),
+                };
+                format!(in alloc; "invalid {what}: {found}, expected {expected}{more}")
+            }
+        }
     }
-}
-
-fn named(alloc: Global, what: &str, name: &str, more: &str) -> Result<String, AllocError> {
-    format!(in alloc; "{what} `{name}`{more}")
 }
 
 /// The part of an entry or item that an error is about.

@@ -5,7 +5,7 @@ ghost use Rattle.std.specs.Prelude.{◌≡◌, IfOk};
 ghost use Rattle.serde.specs.Steps.{Gives, Picks, Stays};
 
 use crate::rejection::{Cause, Part, Rejection};
-use serde::{Deserialize, DeserializeOwned, Deserializer, Format, Kind, Name, NameKind};
+use serde::{Case, Deserialize, DeserializeOwned, Deserializer, Format, Kind, Name, NameKind};
 use std::alloc::{AllocError, Global};
 
 /// A value, or where and why a document does not contain it.
@@ -19,9 +19,7 @@ impl<T: DeserializeOwned> DeserializeOwned for Traced<T> {
         from: &mut Deserializer<'_, '_, F>,
     ) -> Result<Traced<T>, F::Error> {
         let start = from.mark();
-        let mut trace = Trace::new(alloc, from);
-        let read = trace.value(alloc);
-        let read = trace.end(read)?;
+        let read = Trace::new(alloc, from).value()?;
         if read.is_err() {
             from.rewind(start);
         }
@@ -43,17 +41,20 @@ impl<'de, T: DeserializeOwned> Deserialize<'de> for Traced<T> {
     }
 }
 
+/// What is wrong with a value, unless memory is refused.
+type Rejected = Result<Rejection, AllocError>;
+
 /// Why a step fails.
 #[derive(Drop)]
-enum Stop {
-    /// No other reading helps: for an error that the trace has, or a refused allocation.
-    Fatal,
-    At(Box<Rejection>),
+enum Stop<E> {
+    Own(Rejected),
+    /// The other format has this error, which is told as a rejection if it is not fatal.
+    Other(E, Rejected),
 }
 
-impl From<AllocError> for Stop {
-    fn from(_refused: AllocError) -> Stop {
-        Stop::Fatal
+impl<E> From<AllocError> for Stop<E> {
+    fn from(refused: AllocError) -> Stop<E> {
+        Stop::Own(Err(refused))
     }
 }
 
@@ -61,89 +62,42 @@ impl From<AllocError> for Stop {
 #[derive(Drop)]
 struct Trace<'a, 'de, 's, F: Format> {
     from: &'a mut Deserializer<'de, 's, F>,
-    /// The last fatal error.
-    fatal: Option<F::Error>,
     steps: Steps,
 }
 
 impl<'a, 'de, 's, F: Format> Trace<'a, 'de, 's, F> {
     fn new(alloc: Global, from: &'a mut Deserializer<'de, 's, F>) -> Self {
-        Trace {
-            from,
-            fatal: None,
-            steps: Steps {
-                alloc,
-                levels: Vec::new(alloc),
-                depth: 0,
-                part: Part::Value,
-                next: Part::Value,
-                last: Last::Value,
-                expected: String::new(alloc),
-                variant: None,
-            },
-        }
+        let steps = Steps {
+            alloc,
+            levels: Vec::new(alloc),
+            depth: 0,
+            part: Part::Value,
+            next: Part::Value,
+            last: Last::Value,
+            expected: String::new(alloc),
+            variant: None,
+        };
+        Trace { from, steps }
     }
 
-    fn value<T: DeserializeOwned>(&mut self, alloc: Global) -> Result<T, Stop> {
-        T::deserialize_owned(alloc, &mut Deserializer::new(&[], self))
-    }
-
-    /// Returns the value, or where and why it is rejected, or the error of the other format.
-    fn end<T: Drop>(self, read: Result<T, Stop>) -> Result<Result<T, Rejection>, F::Error> {
-        match (read, self.fatal) {
-            (Ok(value), _) => Ok(Ok(value)),
-            (Err(Stop::At(rejection)), _) => Ok(Err(Box::into_inner(rejection))),
-            (_, Some(error)) => Err(error),
-            _ => Err(self.from.no_memory()),
-        }
-    }
-
-    /// Returns this stop, or that for a fatal error.
-    fn failed(&mut self, error: F::Error, stop: Stop) -> Stop {
-        if self.from.is_fatal(&error) {
-            self.fatal = Some(error);
-            return Stop::Fatal;
-        }
-        stop
-    }
-
-    /// Returns what a step has read, or that something else is expected.
-    fn read<T: Drop>(
-        &mut self,
-        read: Result<T, F::Error>,
-        kind: Kind,
-        expected: &str,
-    ) -> Result<T, Stop>
-        ensures { IfOk result (λ value. (read ≡ Ok value) × (self.new.from ≡ self.old.from)) }
-    {
-        self.steps.read(kind, read.is_ok());
-        match read {
-            Ok(value) => Ok(value),
-            Err(error) => {
-                let stop = self.steps.unexpected(kind, expected);
-                Err(self.failed(error, stop))
-            }
-        }
-    }
-
-    /// Returns what a step has seen that reads no value.
-    fn see<T: Drop>(&mut self, seen: Result<T, F::Error>) -> Result<T, Stop>
-        ensures { IfOk result (λ value. (seen ≡ Ok value) × (self.new.from ≡ self.old.from)) }
-    {
-        let next = self.steps.next;
-        self.steps.go(next, next, Last::Value);
-        match seen {
-            Ok(value) => Ok(value),
-            Err(error) => {
-                let stop = self.custom("");
-                Err(self.failed(error, stop))
-            }
+    /// Reads a value, and returns it, or what is wrong with it, or the error of the other format.
+    fn value<T: DeserializeOwned>(mut self) -> Result<Result<T, Rejection>, F::Error> {
+        let read = T::deserialize_owned(self.steps.alloc, &mut Deserializer::new(&[], &mut self));
+        let why = match read {
+            Ok(value) => return Ok(Ok(value)),
+            Err(Stop::Other(error, _why)) if self.from.is_fatal(&error) => return Err(error),
+            Err(Stop::Other(_error, why)) => why,
+            Err(Stop::Own(why)) => why,
+        };
+        match why {
+            Ok(rejection) => Ok(Err(rejection)),
+            Err(AllocError) => Err(self.from.no_memory()),
         }
     }
 }
 
 impl<F: Format> Format for Trace<'_, '_, '_, F> {
-    type Error = Stop;
+    type Error = Stop<F::Error>;
 
     type Mark = (F::Mark, Place);
 
@@ -154,73 +108,65 @@ impl<F: Format> Format for Trace<'_, '_, '_, F> {
 
     ghost stays = { λ old new. Stays F.stays old.from.now new.from.now };
 
-    fn bool(&mut self, _input: &[u8]) -> Result<bool, Stop> {
-        let read = self.from.bool();
-        self.read(read, Kind::Bool, "a boolean")
+    fn bool(&mut self, _input: &[u8]) -> Result<bool, Self::Error> {
+        self.steps.read(self.from.bool(), Kind::Bool, "a boolean")
     }
 
-    fn i64(&mut self, _input: &[u8]) -> Result<i64, Stop> {
-        let read = self.from.i64();
-        self.read(read, Kind::Signed, "an integer")
+    fn i64(&mut self, _input: &[u8]) -> Result<i64, Self::Error> {
+        self.steps.read(self.from.i64(), Kind::Signed, "an integer")
     }
 
-    fn u64(&mut self, _input: &[u8]) -> Result<u64, Stop> {
-        let read = self.from.u64();
-        self.read(read, Kind::Signed, "an integer")
+    fn u64(&mut self, _input: &[u8]) -> Result<u64, Self::Error> {
+        self.steps.read(self.from.u64(), Kind::Signed, "an integer")
     }
 
-    fn i128(&mut self, _input: &[u8]) -> Result<i128, Stop> {
-        let read = self.from.i128();
-        self.read(read, Kind::Signed, "an integer")
+    fn i128(&mut self, _input: &[u8]) -> Result<i128, Self::Error> {
+        self.steps
+            .read(self.from.i128(), Kind::Signed, "an integer")
     }
 
-    fn u128(&mut self, _input: &[u8]) -> Result<u128, Stop> {
-        let read = self.from.u128();
-        self.read(read, Kind::Signed, "an integer")
+    fn u128(&mut self, _input: &[u8]) -> Result<u128, Self::Error> {
+        self.steps
+            .read(self.from.u128(), Kind::Signed, "an integer")
     }
 
-    fn f32(&mut self, _input: &[u8]) -> Result<f32, Stop> {
-        let read = self.from.f32();
-        self.read(read, Kind::Float, "f32")
+    fn f32(&mut self, _input: &[u8]) -> Result<f32, Self::Error> {
+        self.steps.read(self.from.f32(), Kind::Float, "f32")
     }
 
-    fn f64(&mut self, _input: &[u8]) -> Result<f64, Stop> {
-        let read = self.from.f64();
-        self.read(read, Kind::Float, "f64")
+    fn f64(&mut self, _input: &[u8]) -> Result<f64, Self::Error> {
+        self.steps.read(self.from.f64(), Kind::Float, "f64")
     }
 
-    fn char(&mut self, _input: &[u8]) -> Result<char, Stop> {
-        let read = self.from.char();
-        self.read(read, Kind::Str, "a character")
+    fn char(&mut self, _input: &[u8]) -> Result<char, Self::Error> {
+        self.steps.read(self.from.char(), Kind::Str, "a character")
     }
 
     // What borrows nothing never asks for this.
-    fn plain_str(&mut self, _input: &[u8]) -> Result<(usize, usize), Stop> {
+    fn plain_str(&mut self, _input: &[u8]) -> Result<(usize, usize), Self::Error> {
         Err(self.invalid())
     }
 
-    fn plain_bytes(&mut self, _input: &[u8]) -> Result<(usize, usize), Stop> {
+    fn plain_bytes(&mut self, _input: &[u8]) -> Result<(usize, usize), Self::Error> {
         Err(self.invalid())
     }
 
-    fn string(&mut self, alloc: Global, _input: &[u8]) -> Result<String, Stop> {
-        let read = self.from.string(alloc);
-        self.read(read, Kind::Str, "a string")
+    fn string(&mut self, alloc: Global, _input: &[u8]) -> Result<String, Self::Error> {
+        self.steps
+            .read(self.from.string(alloc), Kind::Str, "a string")
     }
 
-    fn byte_buf(&mut self, alloc: Global, _input: &[u8]) -> Result<Vec<u8>, Stop> {
-        let read = self.from.byte_buf(alloc);
-        self.read(read, Kind::Bytes, "byte array")
+    fn byte_buf(&mut self, alloc: Global, _input: &[u8]) -> Result<Vec<u8>, Self::Error> {
+        self.steps
+            .read(self.from.byte_buf(alloc), Kind::Bytes, "byte array")
     }
 
-    fn peek(&mut self, _input: &[u8]) -> Result<Kind, Stop> {
-        let seen = self.from.peek();
-        self.see(seen)
+    fn peek(&mut self, _input: &[u8]) -> Result<Kind, Self::Error> {
+        self.steps.see(self.from.peek(), Last::Value)
     }
 
-    fn take_unit(&mut self, _input: &[u8]) -> Result<bool, Stop> {
-        let seen = self.from.take_unit();
-        let is_taken = self.see(seen)?;
+    fn take_unit(&mut self, _input: &[u8]) -> Result<bool, Self::Error> {
+        let is_taken = self.steps.see(self.from.take_unit(), Last::Value)?;
         if is_taken {
             self.steps.next = Part::Value;
         } else {
@@ -229,78 +175,69 @@ impl<F: Format> Format for Trace<'_, '_, '_, F> {
         Ok(is_taken)
     }
 
-    fn take_none(&mut self, _input: &[u8]) -> Result<bool, Stop> {
-        let seen = self.from.take_none();
-        let is_taken = self.see(seen)?;
+    fn take_none(&mut self, _input: &[u8]) -> Result<bool, Self::Error> {
+        let is_taken = self.steps.see(self.from.take_none(), Last::Value)?;
         if is_taken {
             self.steps.next = Part::Value;
         }
         Ok(is_taken)
     }
 
-    fn begin_seq(&mut self, _input: &[u8]) -> Result<(), Stop> {
-        let read = self.from.begin_seq();
-        self.read(read, Kind::Seq, "a sequence")?;
+    fn begin_seq(&mut self, _input: &[u8]) -> Result<(), Self::Error> {
+        self.steps
+            .read(self.from.begin_seq(), Kind::Seq, "a sequence")?;
         Ok(self.steps.open(false)?)
     }
 
-    fn next_item(&mut self, _input: &[u8]) -> Result<bool, Stop> {
-        let seen = self.from.next_item();
-        let is_more = self.see(seen)?;
+    fn next_item(&mut self, _input: &[u8]) -> Result<bool, Self::Error> {
+        let is_more = self.steps.see(self.from.next_item(), Last::Value)?;
         self.steps.pass(is_more, Part::Value)?;
         Ok(is_more)
     }
 
-    fn end_tuple(&mut self, _input: &[u8]) -> Result<(), Stop> {
+    fn end_tuple(&mut self, _input: &[u8]) -> Result<(), Self::Error> {
         let end = self.from.expect_end();
         self.steps.pass(end.is_err(), Part::Value)?;
         match end {
             Ok(()) => Ok(()),
-            Err(error) => {
-                let stop = self.wrong_len();
-                Err(self.failed(error, stop))
-            }
+            Err(error) => Err(Stop::Other(error, self.steps.wrong_len())),
         }
     }
 
-    fn begin_struct(&mut self, _input: &[u8]) -> Result<bool, Stop> {
-        let read = self.from.begin_struct();
-        let is_seq = self.read(read, Kind::Map, "a map")?;
+    fn begin_struct(&mut self, _input: &[u8]) -> Result<bool, Self::Error> {
+        let is_seq = self
+            .steps
+            .read(self.from.begin_struct(), Kind::Map, "a map")?;
         self.steps.open(false)?;
         Ok(is_seq)
     }
 
-    fn begin_map(&mut self, _input: &[u8]) -> Result<(), Stop> {
+    fn begin_map(&mut self, _input: &[u8]) -> Result<(), Self::Error> {
         let is_reread = matches!(self.steps.last, Last::Rewound);
-        let read = self.from.begin_map();
-        self.read(read, Kind::Map, "a map")?;
+        self.steps.read(self.from.begin_map(), Kind::Map, "a map")?;
         Ok(self.steps.open(is_reread)?)
     }
 
-    fn next_key(&mut self, _input: &[u8], names: &[Name<'_>]) -> Result<Option<usize>, Stop> {
-        match self.from.next_key(names) {
-            Ok(found) => {
-                self.steps.pass_key(found, names)?;
-                Ok(found)
-            }
-            Err(error) => {
-                self.steps.last = Last::NoVariant;
-                let stop = self.invalid();
-                Err(self.failed(error, stop))
-            }
-        }
+    fn next_key(
+        &mut self,
+        _input: &[u8],
+        names: &[Name<'_>],
+    ) -> Result<Option<usize>, Self::Error> {
+        let found = self.steps.see(self.from.next_key(names), Last::NoVariant)?;
+        self.steps.pass_key(found, names)?;
+        Ok(found)
     }
 
-    fn next_entry(&mut self, _input: &[u8]) -> Result<bool, Stop> {
-        let seen = self.from.next_entry();
-        let is_more = self.see(seen)?;
+    fn next_entry(&mut self, _input: &[u8]) -> Result<bool, Self::Error> {
+        let is_more = self.steps.see(self.from.next_entry(), Last::Value)?;
         self.steps.pass(is_more, Part::Key)?;
         Ok(is_more)
     }
 
-    fn variant(&mut self, _input: &[u8], names: &[Name<'_>]) -> Result<usize, Stop> {
-        let read = self.from.variant(names);
-        let found = self.read(read, Kind::Str, "variant identifier")?;
+    fn variant(&mut self, _input: &[u8], names: &[Name<'_>]) -> Result<usize, Self::Error> {
+        let found = self
+            .steps
+            .read(self.from.variant(names), Kind::Str, "variant identifier")?;
         self.steps.last = Last::Variant;
         if found >= names.len() {
             self.steps.keep_unknown(names)?;
@@ -308,109 +245,63 @@ impl<F: Format> Format for Trace<'_, '_, '_, F> {
         Ok(found)
     }
 
-    fn skip(&mut self, _input: &[u8]) -> Result<(), Stop> {
-        self.steps.skip();
-        let read = self.from.skip();
-        self.read(read, Kind::Unit, "a value")
+    fn skip(&mut self, _input: &[u8]) -> Result<(), Self::Error> {
+        if self.steps.part == Part::Key {
+            self.steps.keep_key(None);
+        }
+        self.steps.read(self.from.skip(), Kind::Unit, "a value")
     }
 
-    fn mark(&mut self) -> (F::Mark, Place) {
+    fn mark(&mut self) -> Self::Mark {
         (self.from.mark(), self.steps.place())
     }
 
-    fn rewind(&mut self, back: (F::Mark, Place)) {
-        self.from.rewind(back.0);
-        self.steps.rewind(back.1);
+    fn rewind(&mut self, (mark, place): Self::Mark) {
+        self.from.rewind(mark);
+        self.steps.rewind(place);
     }
 
-    fn release(&mut self, back: (F::Mark, Place)) {
-        self.from.release(back.0)
+    fn release(&mut self, (mark, _place): Self::Mark) {
+        self.from.release(mark)
     }
 
-    fn is_fatal(&self, stop: &Stop) -> bool {
-        matches!(stop, Stop::Fatal)
-    }
-
-    fn missing(&self, name: &str) -> Stop {
-        let steps = &self.steps;
-        let mut key = name;
-        if let Some(map) = steps.levels.get(steps.depth) {
-            for missing in &map.missing {
-                if missing.0.as_str() == name {
-                    key = missing.1.as_str();
-                }
-            }
+    fn is_fatal(&self, stop: &Self::Error) -> bool {
+        match stop {
+            Stop::Other(error, Ok(_)) => self.from.is_fatal(error),
+            Stop::Own(why) | Stop::Other(_, why) => why.is_err(),
         }
-        steps.stop(Part::End, steps.text(key).map(Cause::Missing))
     }
 
-    fn duplicate(&self, _name: &str) -> Stop {
-        let steps = &self.steps;
-        let mut depth = steps.depth;
-        for (around, level) in steps.levels.iter().take(depth).enumerate() {
-            if let Some((Some(name), before)) = level.keys.split_last()
-                && before.contains(&Some(*name))
-            {
-                depth = around.saturating_add(1);
-                break;
-            }
-        }
-        steps.stop_at(steps.path(depth), Part::Key, Ok(Cause::Duplicate))
+    fn missing(&self, name: &str) -> Self::Error {
+        Stop::Own(self.steps.missing(name))
     }
 
-    fn unknown_key(&self) -> Stop {
-        let expected = self.steps.text(self.steps.expected.as_str());
-        self.steps
-            .stop(Part::Key, expected.map(Cause::UnknownField))
+    fn duplicate(&self, _name: &str) -> Self::Error {
+        Stop::Own(self.steps.duplicate())
     }
 
-    fn unknown_variant(&self) -> Stop {
-        let steps = &self.steps;
-        let Some((path, part, expected)) = &steps.variant else {
-            return steps.stop(steps.part, steps.text("").map(Cause::UnknownVariant));
-        };
-        let cause = steps.text(expected.as_str()).map(Cause::UnknownVariant);
-        steps.stop_at(Vec::from_slice(steps.alloc, path), *part, cause)
+    fn unknown_key(&self) -> Self::Error {
+        Stop::Own(self.steps.unknown_key())
     }
 
-    fn wrong_len(&self) -> Stop {
-        if !matches!(self.steps.last, Last::Item) {
-            return self.steps.stop(Part::Value, Ok(Cause::Length));
-        }
-        // It is the sequence that has an item too many.
-        let Place { depth, keys, .. } = self.steps.place();
-        let path = self.steps.path(depth.saturating_sub(1));
-        let cause = Cause::Long(keys.saturating_sub(1));
-        self.steps.stop_at(path, Part::Value, Ok(cause))
+    fn unknown_variant(&self) -> Self::Error {
+        Stop::Own(self.steps.unknown_variant())
     }
 
-    fn invalid(&self) -> Stop {
-        let steps = &self.steps;
-        if let (Last::NoContent, Some(map)) = (steps.last, steps.levels.get(steps.depth))
-            && let Some(names) = map.missing.last()
-        {
-            return self.missing(names.0.as_str());
-        }
-        let message = match steps.last {
-            Last::Integer => return steps.stop(steps.part, Ok(Cause::Range)),
-            Last::NoUnit => return steps.unexpected(Kind::Unit, "unit"),
-            Last::NoVariant => {
-                return steps.message(Part::End, "wanted exactly 1 element, found 0 elements");
-            }
-            Last::SecondKey => "wanted exactly 1 element, more than 1 element",
-            Last::Variant => "invalid type: unit variant, expected a variant with data",
-            Last::Rewound => "data did not match any variant of untagged enum",
-            Last::Value | Last::Item | Last::NoContent => "",
-        };
-        self.custom(message)
+    fn wrong_len(&self) -> Self::Error {
+        Stop::Own(self.steps.wrong_len())
     }
 
-    fn no_memory(&self) -> Stop {
-        Stop::Fatal
+    fn invalid(&self) -> Self::Error {
+        Stop::Own(self.steps.invalid())
     }
 
-    fn custom(&self, message: &str) -> Stop {
-        self.steps.message(self.steps.part, message)
+    fn no_memory(&self) -> Self::Error {
+        Stop::Own(Err(AllocError))
+    }
+
+    fn custom(&self, message: &str) -> Self::Error {
+        Stop::Own(self.steps.message(self.steps.part, message))
     }
 }
 
@@ -429,8 +320,8 @@ struct Steps {
     last: Last,
     /// What is expected in place of the last key, if it is unknown.
     expected: String,
-    /// The last variant that is unknown, and what is expected, until a value but a map is read.
-    variant: Option<(Vec<usize>, Part, String)>,
+    /// What is wrong with the last variant that is unknown, until a value but a map is read.
+    variant: Option<Rejection>,
 }
 
 /// A map or a sequence.
@@ -438,10 +329,17 @@ struct Steps {
 struct Level {
     /// For each entry or item, the number of its key's name, if it has one and is not skipped.
     keys: Vec<Option<usize>>,
-    /// The names that it lacks, with their keys, by each type that has read it.
-    missing: Vec<(String, String)>,
+    /// What it lacks, by each type that has read it.
+    missing: Vec<Missing>,
     /// Whether it is read after going back.
     is_reread: bool,
+}
+
+/// A name for which a map has no key, and the case of the key.
+#[derive(Drop)]
+struct Missing {
+    name: String,
+    case: Case,
 }
 
 /// What the last step has read, as far as an error tells it.
@@ -479,16 +377,35 @@ impl Steps {
         self.expected.clear();
     }
 
-    /// Reads what is next, where this is expected, and perhaps is there.
-    fn read(&mut self, kind: Kind, is_there: bool) {
-        self.go(self.next, Part::Value, Last::Value);
-        match kind {
-            // After the name of a variant, its content is looked for in the same map.
-            Kind::Map | Kind::Unit => return,
-            Kind::Signed if is_there => self.last = Last::Integer,
-            _ => {}
+    /// Looks at what is next, and tells an error by `last`.
+    fn see<T, E>(&mut self, seen: Result<T, E>, last: Last) -> Result<T, Stop<E>>
+        ensures { IfOk result (λ value. seen ≡ Ok value) }
+    {
+        self.go(self.next, self.next, last);
+        match seen {
+            Ok(value) => Ok(value),
+            Err(error) => Err(Stop::Other(error, self.invalid())),
         }
-        self.variant = None;
+    }
+
+    /// Reads what is next, where this is expected.
+    fn read<T, E>(&mut self, read: Result<T, E>, kind: Kind, expected: &str) -> Result<T, Stop<E>>
+        ensures { IfOk result (λ value. read ≡ Ok value) }
+    {
+        self.go(self.next, Part::Value, Last::Value);
+        // After the name of a variant, its content is looked for in the same map.
+        if !matches!(kind, Kind::Map | Kind::Unit) {
+            self.variant = None;
+        }
+        match read {
+            Ok(value) => {
+                if let Kind::Signed = kind {
+                    self.last = Last::Integer;
+                }
+                Ok(value)
+            }
+            Err(error) => Err(Stop::Other(error, self.unexpected(kind, expected))),
+        }
     }
 
     /// Opens a map or a sequence.
@@ -497,76 +414,64 @@ impl Steps {
             level.keys.clear();
             level.is_reread = is_reread;
         } else {
-            let (keys, missing) = (Vec::new(self.alloc), Vec::new(self.alloc));
-            let level = Level {
-                keys,
-                missing,
+            self.levels.push(Level {
+                keys: Vec::new(self.alloc),
+                missing: Vec::new(self.alloc),
                 is_reread,
-            };
-            self.levels.push(level)?;
+            })?;
         }
         self.depth = self.depth.saturating_add(1);
-        self.forget();
-        Ok(())
-    }
-
-    /// Forgets what the map lacks that has ended last in the level.
-    fn forget(&mut self) {
-        if let Some(ended) = self.levels.get_mut(self.depth) {
-            ended.missing.clear();
-        }
-    }
-
-    /// Begins another entry or item.
-    fn begin(&mut self, key: Option<usize>, part: Part, next: Part) -> Result<(), AllocError> {
-        self.go(part, next, Last::Item);
-        self.forget();
-        if let Some(level) = self.levels.get_mut(self.depth.wrapping_sub(1)) {
-            level.keys.push(key)?;
-        }
+        self.levels.truncate(self.depth);
         Ok(())
     }
 
     /// Begins another entry or item, or closes the map or the sequence.
     fn pass(&mut self, is_more: bool, part: Part) -> Result<(), AllocError> {
-        if is_more {
-            return self.begin(None, part, part);
+        if !is_more {
+            self.go(Part::Value, Part::Value, Last::Value);
+            self.depth = self.depth.saturating_sub(1);
+            return Ok(());
         }
-        self.close();
+        self.go(part, part, Last::Item);
+        self.levels.truncate(self.depth);
+        if let Some(level) = self.levels.last_mut() {
+            level.keys.push(None)?;
+        }
         Ok(())
-    }
-
-    fn close(&mut self) {
-        self.go(Part::Value, Part::Value, Last::Value);
-        self.depth = self.depth.saturating_sub(1);
     }
 
     /// Begins the entry of a key, which is perhaps one of these names, or closes the map.
     fn pass_key(&mut self, found: Option<usize>, names: &[Name<'_>]) -> Result<(), AllocError> {
+        self.pass(found.is_some(), Part::Key)?;
+        self.next = Part::Value;
         match found {
-            Some(at) if at < names.len() => self.begin(found, Part::Key, Part::Value),
-            Some(_) => {
-                self.begin(None, Part::Key, Part::Value)?;
-                self.keep_unknown(names)
-            }
-            None => {
-                self.close();
-                self.keep_missing(names)
-            }
+            Some(at) if at < names.len() => self.keep_key(found),
+            Some(_) => self.keep_unknown(names)?,
+            None => self.keep_missing(names)?,
+        }
+        Ok(())
+    }
+
+    /// Keeps which name the last key stands for, if it is not skipped.
+    fn keep_key(&mut self, name: Option<usize>) {
+        if let Some(level) = self.levels.get_mut(self.depth.wrapping_sub(1))
+            && let Some(key) = level.keys.last_mut()
+        {
+            *key = name;
         }
     }
 
     /// Keeps that the last key or string is none of these names.
     fn keep_unknown(&mut self, names: &[Name<'_>]) -> Result<(), AllocError> {
-        let expected = expected(self.alloc, names)?;
-        if are_variants(names) {
-            self.variant = Some((self.path(self.depth)?, self.part, expected));
-            return Ok(());
-        }
         if names.is_empty() {
             self.last = Last::SecondKey;
         }
-        self.expected = expected;
+        let expected = expected(self.alloc, names)?;
+        if are_variants(names) {
+            self.variant = Some(self.rejection(self.part, Cause::UnknownVariant(expected))?);
+        } else {
+            self.expected = expected;
+        }
         Ok(())
     }
 
@@ -584,22 +489,10 @@ impl Steps {
             if names.len() == 1 && map.is_reread {
                 self.last = Last::NoContent;
             }
-            let mut key = String::new(self.alloc);
-            name.case.append(name.kind, name.name, &mut key)?;
-            let name = String::from_str(self.alloc, name.name)?;
-            map.missing.push((name, key))?;
+            let (name, case) = (String::from_str(self.alloc, name.name)?, name.case);
+            map.missing.push(Missing { name, case })?;
         }
         Ok(())
-    }
-
-    /// Keeps that the value of the last key is skipped, if it is next.
-    fn skip(&mut self) {
-        if self.part == Part::Key
-            && let Some(level) = self.levels.get_mut(self.depth.wrapping_sub(1))
-            && let Some(key) = level.keys.last_mut()
-        {
-            *key = None;
-        }
     }
 
     fn place(&self) -> Place {
@@ -620,54 +513,108 @@ impl Steps {
         self.go(place.next, place.next, Last::Rewound);
     }
 
-    fn text(&self, text: &str) -> Result<String, AllocError> {
-        String::from_str(self.alloc, text)
-    }
-
-    /// Returns the path to what the last step has read in so many levels.
-    fn path(&self, depth: usize) -> Result<Vec<usize>, AllocError> {
+    /// Returns the path to what the last step has read, or to the first key that is there twice.
+    fn path(&self, is_duplicate: bool) -> Result<Vec<usize>, AllocError> {
         let mut path = Vec::new(self.alloc);
-        for level in self.levels.iter().take(depth) {
+        for level in self.levels.iter().take(self.depth) {
             // In the last level, perhaps nothing has begun.
-            if let Some(number) = level.keys.len().checked_sub(1) {
-                path.push(number)?;
+            let Some((last, before)) = level.keys.split_last() else {
+                break;
+            };
+            path.push(before.len())?;
+            if is_duplicate && last.is_some() && before.contains(last) {
+                break;
             }
         }
         Ok(path)
     }
 
-    /// Returns an error at the current position.
-    fn stop(&self, part: Part, cause: Result<Cause, AllocError>) -> Stop {
-        self.stop_at(self.path(self.depth), part, cause)
+    fn text(&self, text: &str) -> Result<String, AllocError> {
+        String::from_str(self.alloc, text)
     }
 
-    fn stop_at(
-        &self,
-        path: Result<Vec<usize>, AllocError>,
-        part: Part,
-        cause: Result<Cause, AllocError>,
-    ) -> Stop {
-        let (Ok(path), Ok(cause)) = (path, cause) else {
-            return Stop::Fatal;
-        };
-        Box::new(self.alloc, Rejection { path, part, cause }).map_or(Stop::Fatal, Stop::At)
+    fn rejection(&self, part: Part, cause: Cause) -> Rejected {
+        let path = self.path(false)?;
+        Ok(Rejection { path, part, cause })
     }
 
-    fn message(&self, part: Part, message: &str) -> Stop {
-        self.stop(part, self.text(message).map(Cause::Message))
+    fn message(&self, part: Part, message: &str) -> Rejected {
+        self.rejection(part, Cause::Message(self.text(message)?))
     }
 
-    fn unexpected(&self, kind: Kind, expected: &str) -> Stop {
-        match self.text(expected) {
-            Ok(expected) => self.stop(self.part, Ok(Cause::Expected(kind, expected))),
-            Err(_) => Stop::Fatal,
+    fn unexpected(&self, kind: Kind, expected: &str) -> Rejected {
+        self.rejection(self.part, Cause::Expected(kind, self.text(expected)?))
+    }
+
+    fn missing(&self, name: &str) -> Rejected {
+        let mut case = Case::AsIs;
+        if let Some(map) = self.levels.get(self.depth) {
+            for missing in &map.missing {
+                if missing.name.as_str() == name {
+                    case = missing.case;
+                }
+            }
         }
+        let mut key = String::new(self.alloc);
+        case.append(NameKind::Field, name, &mut key)?;
+        self.rejection(Part::End, Cause::Missing(key))
+    }
+
+    fn duplicate(&self) -> Rejected {
+        let (path, part, cause) = (self.path(true)?, Part::Key, Cause::Duplicate);
+        Ok(Rejection { path, part, cause })
+    }
+
+    fn unknown_key(&self) -> Rejected {
+        let expected = self.text(&self.expected)?;
+        self.rejection(Part::Key, Cause::UnknownField(expected))
+    }
+
+    fn unknown_variant(&self) -> Rejected {
+        if let Some(variant) = &self.variant
+            && let Cause::UnknownVariant(expected) = &variant.cause
+        {
+            let (path, part) = (Vec::from_slice(self.alloc, &variant.path)?, variant.part);
+            let cause = Cause::UnknownVariant(self.text(expected)?);
+            return Ok(Rejection { path, part, cause });
+        }
+        self.rejection(self.part, Cause::UnknownVariant(self.text("")?))
+    }
+
+    fn wrong_len(&self) -> Rejected {
+        let (mut path, part) = (self.path(false)?, Part::Value);
+        let cause = match self.last {
+            // It is the sequence that has an item too many.
+            Last::Item => Cause::Long(path.pop().unwrap_or(0)),
+            _ => Cause::Length,
+        };
+        Ok(Rejection { path, part, cause })
+    }
+
+    fn invalid(&self) -> Rejected {
+        if let (Last::NoContent, Some(map)) = (self.last, self.levels.get(self.depth))
+            && let Some(missing) = map.missing.last()
+        {
+            return self.missing(&missing.name);
+        }
+        let message = match self.last {
+            Last::Integer => return self.rejection(self.part, Cause::Range),
+            Last::NoUnit => return self.unexpected(Kind::Unit, "unit"),
+            Last::NoVariant => {
+                return self.message(Part::End, "wanted exactly 1 element, found 0 elements");
+            }
+            Last::SecondKey => "wanted exactly 1 element, more than 1 element",
+            Last::Variant => "invalid type: unit variant, expected a variant with data",
+            Last::Rewound => "data did not match any variant of untagged enum",
+            _ => "",
+        };
+        self.message(self.part, message)
     }
 }
 
 /// Returns what is said of these names after one that is unknown.
 fn expected(alloc: Global, names: &[Name<'_>]) -> Result<String, AllocError> {
-    let (mut before, between) = match count_read(names) {
+    let (mut before, between) = match names.iter().filter(|name| !name.skipped).count() {
         0 if are_variants(names) => return String::from_str(alloc, ", there are no variants"),
         0 => return String::from_str(alloc, ", there are no fields"),
         1 | 2 => (", expected `", " or `"),
@@ -686,20 +633,6 @@ fn expected(alloc: Global, names: &[Name<'_>]) -> Result<String, AllocError> {
     Ok(expected)
 }
 
-/// Returns how many of these names are read.
-fn count_read(names: &[Name<'_>]) -> usize {
-    let mut count = 0_usize;
-    for name in names {
-        count = count.saturating_add(usize::from(!name.skipped));
-    }
-    count
-}
-
 fn are_variants(names: &[Name<'_>]) -> bool {
-    for name in names {
-        if name.kind == NameKind::Variant {
-            return true;
-        }
-    }
-    false
+    names.iter().any(|name| name.kind == NameKind::Variant)
 }

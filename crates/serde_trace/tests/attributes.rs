@@ -200,6 +200,13 @@ struct Partly {
 }
 
 #[derive(Drop, Deserialize)]
+struct Beyond {
+    max_age: i8,
+    #[serde(flatten)]
+    rest: Camel,
+}
+
+#[derive(Drop, Deserialize)]
 #[serde(rename_all = "camelCase")]
 struct Ageless {
     #[serde(skip)]
@@ -290,6 +297,13 @@ fn one_name_in_a_shared_map(rt: HostRuntime) -> Result<(), Fail> {
         &rt,
         &[("missing field `max-age`", &["{ ^}", "{ max_age: 1 ^}"])],
     )?;
+    assert_errors::<Beyond>(
+        &rt,
+        &[(
+            "missing field `max_age`",
+            &["{ maxAge: 1 ^}", "{ maxAge: 1 x: 2 ^}"],
+        )],
+    )?;
     assert_errors::<Partly>(
         &rt,
         &[(
@@ -306,6 +320,14 @@ enum Job {
     Once(i8),
     #[serde(skip)]
     Hidden,
+}
+
+/// An enum whose first variant is not read.
+#[derive(Drop, Deserialize)]
+enum Later {
+    #[serde(skip)]
+    Hidden,
+    Once(i8),
 }
 
 #[derive(Drop, Deserialize)]
@@ -364,7 +386,7 @@ fn variants(rt: HostRuntime) -> Result<(), Fail> {
             ),
             (
                 "wanted exactly 1 element, found 0 elements",
-                &["{ job: { ^} }"],
+                &["{ job: { ^} }", "{ job: { 5 ^} }"],
             ),
             (
                 "wanted exactly 1 element, more than 1 element",
@@ -391,6 +413,16 @@ fn variants(rt: HostRuntime) -> Result<(), Fail> {
                     "{ any: [ { once: 1 } ^{ once: 300 } ] }",
                 ],
             ),
+        ],
+    )?;
+    assert_errors::<Later>(
+        &rt,
+        &[
+            (
+                "unknown variant `x`, expected `Once`",
+                &["^'x", "{ ^x: 1 }"],
+            ),
+            ("wanted exactly 1 element, found 0 elements", &["{ ^}"]),
         ],
     )?;
     assert_errors::<Inside>(

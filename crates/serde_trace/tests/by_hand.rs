@@ -2,7 +2,7 @@
 
 use crate::attributes::Server;
 use crate::words::{Row, assert_errors, value};
-use serde::{Deserialize, DeserializeOwned, Deserializer, Format, Kind, Name};
+use serde::{Case, Deserialize, DeserializeOwned, Deserializer, Format, Kind, Name, NameKind};
 use std::alloc::Global;
 use std::collections::BTreeMap;
 use std::process::Abort;
@@ -303,6 +303,64 @@ fn a_name_that_another_entry_lacks(rt: HostRuntime) -> Result<(), Fail> {
     assert_each::<Down>(&rt, "missing field `is_up`", &["{ host-name: 'a ^}"])
 }
 
+/// A map that is read ahead, and rejected where it is opened again.
+#[derive(Drop)]
+struct Opened;
+
+by_hand!(Opened, alloc, from, {
+    let start = from.mark();
+    drop(BTreeMap::<String, Optional>::deserialize_owned(alloc, from)?);
+    from.rewind(start);
+    from.release(start);
+    from.begin_map()?;
+    Err(from.missing("a_b"))
+});
+
+/// A map that is rejected for a name that is not read.
+#[derive(Drop)]
+struct Skipped;
+
+by_hand!(Skipped, _alloc, from, {
+    let mut name = Name::exact("a_b");
+    (name.case, name.skipped) = (Case::Camel, true);
+    from.begin_map()?;
+    while from.next_key(&[name])?.is_some() {
+        from.skip()?;
+    }
+    Err(from.missing("a_b"))
+});
+
+/// A string that is rejected as if it were an unknown key.
+#[derive(Drop)]
+struct NoKey;
+
+by_hand!(NoKey, _alloc, from, {
+    let mut name = Name::exact("A");
+    name.kind = NameKind::Variant;
+    from.variant(&[name])?;
+    Err(from.unknown_key())
+});
+
+/// A string that names a variant, of which none is read.
+#[derive(Drop)]
+struct NoVariant;
+
+by_hand!(NoVariant, _alloc, from, {
+    let mut name = Name::exact("A");
+    (name.kind, name.skipped) = (NameKind::Variant, true);
+    from.variant(&[name])?;
+    Err(from.unknown_variant())
+});
+
+#[test]
+fn a_name_that_no_key_stands_for(rt: HostRuntime) -> Result<(), Fail> {
+    assert_each::<Opened>(&rt, "missing field `a_b`", &["{ x: { } ^}"])?;
+    assert_each::<Skipped>(&rt, "missing field `a_b`", &["{ ^}", "{ aB: 1 ^}"])?;
+    let message = "unknown variant `x`, there are no variants";
+    assert_each::<NoVariant>(&rt, message, &["^'x"])?;
+    assert_errors::<Vec<NoKey>>(&rt, &[("unknown field `x`", &["[ ^'x ]"])])
+}
+
 /// A sequence of which items are read ahead.
 #[derive(Drop)]
 struct Ahead;
@@ -419,6 +477,15 @@ fn maps_that_are_read_ahead(rt: HostRuntime) -> Result<(), Fail> {
             "{ a: { n: ^300 } }",
             "{ a: { n: 1 } c: { } b: { n: ^300 } a: 5 }",
         ],
+    )?;
+    // Keys that stand for no name are not there twice.
+    assert_errors::<Keys>(
+        &rt,
+        &[("duplicate field `n`", &["{ c: { n: 1 } d: { n: 1 ^n: 2 } }"])],
+    )?;
+    assert_errors::<Vec<One>>(
+        &rt,
+        &[("duplicate field `n`", &["[ { n: 1 } { n: 1 ^n: 2 } ]"])],
     )?;
     assert_each::<NoMap>(&rt, "no map", &["^{ b: 1 }", "^{ a: [ ] }", "^{ }"])?;
     assert_each::<Passed>(

@@ -8,7 +8,7 @@ returns g c =
     let old = c.args.self.now in
     let from = old.from in
     let event = struct_begins c.in_ok-is_seq.is_seq in
-    let now = c.read.new.self.from.now in
+    let now = c.begin_struct.new.self in
     let begun : Begins g.F.Format.gives g.F.Format.stays from.now event now =
     grind (arith, rules) in
     ⊎_elim

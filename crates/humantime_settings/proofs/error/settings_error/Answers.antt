@@ -3,7 +3,7 @@ use Rattle.std.proofs.Common.{take-append-drop, ⊎_elim}
 use Rattle.std.proofs.lemmas.Bool.{cases_lt}
 use Rattle.humantime.specs.DurationErrors.{IsRangeIn}
 use Rattle.humantime_lines.specs.Lines.{line_after}
-use Rattle.humantime_settings.proofs.error.error_at.Goals as goal
+use Rattle.humantime_settings.proofs.error.settings_error.Goals as goal
 
 -- What holds of two numbers holds of the greater one.
 of_greater : (P : ℕ → Type 0) (a b : ℕ) → P a → P b → P (max a b)
@@ -13,8 +13,8 @@ of_greater P a b first second =
     (λ (above : b ≤ a). let is : max a b ≡ a = omega arith in rw is first)
     (cases_lt a b)
 
-pub returns-clause-position : goal.returns-clause-position
-returns-clause-position c =
+pub returns : goal.returns
+returns c =
     let text = c.args.text.now in
     let start = c.floor_char_boundary-start.result in
     let end = c.max-end.result in
