@@ -91,7 +91,7 @@ impl SettingsError {
         ensures { result ≡ spec.column_of self.now }
     {
         match self {
-            SettingsError::At { before, .. } => Some(column_after(before.as_str())),
+            SettingsError::At { before, .. } => Some(column_after(before)),
             _ => None,
         }
     }
@@ -113,9 +113,7 @@ impl SettingsError {
     {
         match self {
             SettingsError::OutOfMemory => "out of memory",
-            SettingsError::At { message, .. } | SettingsError::WithoutPosition(message) => {
-                message.as_str()
-            }
+            SettingsError::At { message, .. } | SettingsError::WithoutPosition(message) => message,
         }
     }
 }
@@ -188,18 +186,18 @@ pub(crate) fn settings_error(
 {
     let start = text.floor_char_boundary(error.start);
     let end = text.floor_char_boundary(error.end).max(start);
-    let place = Located {
-        error: (),
+    let report = Located {
+        error: error.error,
         start,
         end,
-    };
-    let report = place.report(text);
+    }
+    .report(text);
     Ok(SettingsError::At {
         offset: start,
         line: report.number.unwrap_or(1),
         before: String::from_str(alloc, report.line.before)?,
         part: String::from_str(alloc, report.line.part)?,
         after: String::from_str(alloc, report.line.after)?,
-        message: error.error,
+        message: report.error,
     })
 }

@@ -58,8 +58,8 @@ pub fn from_json<T: DeserializeOwned>(alloc: Global, text: &str) -> Result<T, Se
         Ok(Owned(value)) => return Ok(value),
         Err(error) => error,
     };
-    let error = match serde_json::from_str::<Traced<T>>(alloc, text) {
-        Ok(Traced(Err(rejection))) => {
+    let error = match serde_json::from_str::<Owned<Traced<T>>>(alloc, text) {
+        Ok(Owned(Traced(Err(rejection)))) => {
             let mut scratch = Scratch::new(alloc);
             let (at, found) = found_at(text, &rejection, &mut scratch)?;
             rejection_error(alloc, text, at, &rejection, found)?
@@ -77,7 +77,7 @@ impl<'de, T: DeserializeOwned> Deserialize<'de> for Owned<T> {
     fn deserialize<F: Format>(
         alloc: Global,
         from: &mut Deserializer<'de, '_, F>,
-    ) -> Result<Owned<T>, F::Error> {
+    ) -> Result<Self, F::Error> {
         Ok(Owned(T::deserialize_owned(alloc, from)?))
     }
 }

@@ -147,29 +147,26 @@ impl<'a> Walk<'a> {
 pub(crate) fn wrong_part(alloc: Global, document: &str, at: usize) -> Result<usize, AllocError> {
     // No key of the document is as long.
     let fresh = "x".repeat(alloc, document.len())?;
-    let mut parts = parts_of(alloc, tail(document, at))?;
-    let mut wrong = parts.pop().unwrap_or("");
-    for _ in 0..RECURSION_LIMIT {
-        let Some(part) = parts.pop() else {
-            break;
-        };
-        let front = document.get(..offset_of(document, wrong)).unwrap_or("");
-        let rest = name_at(alloc, wrong)?.1;
+    let mut parts = parts_at(alloc, document, at)?;
+    let mut wrong = parts.pop().unwrap_or(at);
+    for part in parts.iter().rev() {
+        let front = document.get(..wrong).unwrap_or("");
+        let rest = name_at(alloc, tail(document, wrong))?.1;
         let text = format!(in alloc; "{front}{fresh}{rest}")?;
         match toml::table_from_str(alloc, &text) {
-            Err(error) if error.span().ok_or(AllocError)?.start == at => wrong = part,
+            Err(error) if error.span().ok_or(AllocError)?.start == at => wrong = *part,
             _ => break,
         }
     }
-    Ok(offset_of(document, wrong))
+    Ok(wrong)
 }
 
-/// Returns the document from each part of a key on.
-fn parts_of(alloc: Global, key: &str) -> Result<Vec<&str>, AllocError> {
+/// Returns the offset of each part of the key or the header at an offset.
+fn parts_at(alloc: Global, document: &str, at: usize) -> Result<Vec<usize>, AllocError> {
     let mut parts = Vec::new(alloc);
-    let mut part = key.trim_start_matches(['[', ' ', '\t']);
+    let mut part = tail(document, at).trim_start_matches(['[', ' ', '\t']);
     for _ in 0..RECURSION_LIMIT {
-        parts.push(part)?;
+        parts.push(offset_of(document, part))?;
         let rest = name_at(alloc, part)?.1;
         if first(rest) != b'.' {
             break;

@@ -156,19 +156,17 @@ fn way<'a>(
 ) -> Result<(Vec<Step<'a>>, &'a Value), AllocError> {
     let (mut steps, mut value) = (Vec::new(alloc), values);
     for number in path {
-        let (step, inner) = match value {
-            Value::Table(table) => match table.iter().nth(*number) {
-                Some((key, inner)) => (Step::Key(key), inner),
-                None => break,
-            },
-            Value::Array(items) => match items.get(*number) {
-                Some(item) => (Step::Item(*number), item),
-                None => break,
-            },
+        let step;
+        (step, value) = match value {
+            Value::Table(table) if let Some((key, inner)) = table.iter().nth(*number) => {
+                (Step::Key(key), inner)
+            }
+            Value::Array(items) if let Some(item) = items.get(*number) => {
+                (Step::Item(*number), item)
+            }
             _ => break,
         };
         steps.push(step)?;
-        value = inner;
     }
     Ok((steps, value))
 }

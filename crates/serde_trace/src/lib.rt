@@ -6,12 +6,15 @@
 //!
 //! ```
 //! use serde_trace::{Part, Traced, Unexpected};
+//! use std::collections::BTreeMap;
 //!
-//! let document = r#"[[1, 2], [3, 300]]"#;
-//! let Traced(read) = serde_json::from_str::<Traced<Vec<[u8; 2]>>>(rt.alloc(), document)?;
+//! type Pairs = BTreeMap<String, [u8; 2]>;
+//!
+//! let document = "first = [1, 2]\nsecond = [3, 300]";
+//! let Traced(read) = toml::from_str::<Traced<Pairs>>(rt.alloc(), document)?;
 //! let rejection = read.err().ok_or("read")?;
 //! assert!(rt; rejection.path.as_slice() == [1, 1].as_slice() && rejection.part == Part::Value);
-//! let message = rejection.message(rt.alloc(), Unexpected::Number("300"))?;
+//! let message = rejection.message(rt.alloc(), Unexpected::Integer(300))?;
 //! assert_eq!(rt; message.as_str(), "invalid value: integer `300`, expected an integer in range");
 //! ```
 #![tactic(auto)]

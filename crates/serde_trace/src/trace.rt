@@ -5,7 +5,7 @@ ghost use Rattle.std.specs.Prelude.{◌≡◌, IfOk};
 ghost use Rattle.serde.specs.Steps.{Gives, Picks, Stays};
 
 use crate::rejection::{Cause, Part, Rejection};
-use serde::{Case, Deserialize, DeserializeOwned, Deserializer, Format, Kind, Name, NameKind};
+use serde::{Case, DeserializeOwned, Deserializer, Format, Kind, Name, NameKind};
 use std::alloc::{AllocError, Global};
 
 /// A value, or where and why a document does not contain it.
@@ -17,9 +17,10 @@ impl<T: DeserializeOwned> DeserializeOwned for Traced<T> {
     fn deserialize_owned<F: Format>(
         alloc: Global,
         from: &mut Deserializer<'_, '_, F>,
-    ) -> Result<Traced<T>, F::Error> {
+    ) -> Result<Self, F::Error> {
         let start = from.mark();
-        let read = Trace::new(alloc, from).value()?;
+        let steps = Steps::new(alloc);
+        let read = Trace { from, steps }.value()?;
         if read.is_err() {
             from.rewind(start);
         }
@@ -29,15 +30,6 @@ impl<T: DeserializeOwned> DeserializeOwned for Traced<T> {
             from.skip()?;
         }
         Ok(Traced(read))
-    }
-}
-
-impl<'de, T: DeserializeOwned> Deserialize<'de> for Traced<T> {
-    fn deserialize<F: Format>(
-        alloc: Global,
-        from: &mut Deserializer<'de, '_, F>,
-    ) -> Result<Traced<T>, F::Error> {
-        Traced::deserialize_owned(alloc, from)
     }
 }
 
@@ -53,7 +45,7 @@ enum Stop<E> {
 }
 
 impl<E> From<AllocError> for Stop<E> {
-    fn from(refused: AllocError) -> Stop<E> {
+    fn from(refused: AllocError) -> Self {
         Stop::Own(Err(refused))
     }
 }
@@ -65,21 +57,7 @@ struct Trace<'a, 'de, 's, F: Format> {
     steps: Steps,
 }
 
-impl<'a, 'de, 's, F: Format> Trace<'a, 'de, 's, F> {
-    fn new(alloc: Global, from: &'a mut Deserializer<'de, 's, F>) -> Self {
-        let steps = Steps {
-            alloc,
-            levels: Vec::new(alloc),
-            depth: 0,
-            part: Part::Value,
-            next: Part::Value,
-            last: Last::Value,
-            expected: String::new(alloc),
-            variant: None,
-        };
-        Trace { from, steps }
-    }
-
+impl<F: Format> Trace<'_, '_, '_, F> {
     /// Reads a value, and returns it, or what is wrong with it, or the error of the other format.
     fn value<T: DeserializeOwned>(mut self) -> Result<Result<T, Rejection>, F::Error> {
         let read = T::deserialize_owned(self.steps.alloc, &mut Deserializer::new(&[], &mut self));
@@ -277,7 +255,7 @@ impl<F: Format> Format for Trace<'_, '_, '_, F> {
     }
 
     fn duplicate(&self, _name: &str) -> Self::Error {
-        Stop::Own(self.steps.duplicate())
+        Stop::Own(self.steps.rejection(Part::Key, Cause::Duplicate))
     }
 
     fn unknown_key(&self) -> Self::Error {
@@ -327,8 +305,12 @@ struct Steps {
 /// A map or a sequence.
 #[derive(Drop)]
 struct Level {
-    /// For each entry or item, the number of its key's name, if it has one and is not skipped.
-    keys: Vec<Option<usize>>,
+    /// How many entries or items have begun.
+    len: usize,
+    /// The number of the last key's name, if it has one and is not skipped.
+    key: Option<usize>,
+    /// Those of the keys before it, each once.
+    keys: Vec<usize>,
     /// What it lacks, by each type that has read it.
     missing: Vec<Missing>,
     /// Whether it is read after going back.
@@ -363,15 +345,30 @@ enum Last {
     Rewound,
 }
 
-/// A place to come back to: how many levels are open, and how many keys the last one has.
+/// A place to come back to: how many levels are open, and what the last one has.
 #[derive(Clone, Copy, Drop)]
 struct Place {
     depth: usize,
+    len: usize,
+    key: Option<usize>,
     keys: usize,
     next: Part,
 }
 
 impl Steps {
+    fn new(alloc: Global) -> Self {
+        Steps {
+            alloc,
+            levels: Vec::new(alloc),
+            depth: 0,
+            part: Part::Value,
+            next: Part::Value,
+            last: Last::Value,
+            expected: String::new(alloc),
+            variant: None,
+        }
+    }
+
     fn go(&mut self, part: Part, next: Part, last: Last) {
         (self.part, self.next, self.last) = (part, next, last);
         self.expected.clear();
@@ -382,10 +379,7 @@ impl Steps {
         ensures { IfOk result (λ value. seen ≡ Ok value) }
     {
         self.go(self.next, self.next, last);
-        match seen {
-            Ok(value) => Ok(value),
-            Err(error) => Err(Stop::Other(error, self.invalid())),
-        }
+        seen.map_err(|error| Stop::Other(error, self.invalid()))
     }
 
     /// Reads what is next, where this is expected.
@@ -397,24 +391,22 @@ impl Steps {
         if !matches!(kind, Kind::Map | Kind::Unit) {
             self.variant = None;
         }
-        match read {
-            Ok(value) => {
-                if let Kind::Signed = kind {
-                    self.last = Last::Integer;
-                }
-                Ok(value)
-            }
-            Err(error) => Err(Stop::Other(error, self.unexpected(kind, expected))),
+        let value = read.map_err(|error| Stop::Other(error, self.unexpected(kind, expected)))?;
+        if let Kind::Signed = kind {
+            self.last = Last::Integer;
         }
+        Ok(value)
     }
 
     /// Opens a map or a sequence.
     fn open(&mut self, is_reread: bool) -> Result<(), AllocError> {
         if let Some(level) = self.levels.get_mut(self.depth) {
+            (level.len, level.key, level.is_reread) = (0, None, is_reread);
             level.keys.clear();
-            level.is_reread = is_reread;
         } else {
             self.levels.push(Level {
+                len: 0,
+                key: None,
                 keys: Vec::new(self.alloc),
                 missing: Vec::new(self.alloc),
                 is_reread,
@@ -435,7 +427,12 @@ impl Steps {
         self.go(part, part, Last::Item);
         self.levels.truncate(self.depth);
         if let Some(level) = self.levels.last_mut() {
-            level.keys.push(None)?;
+            level.len = level.len.wrapping_add(1);
+            if let Some(key) = level.key.take()
+                && !level.keys.contains(&key)
+            {
+                level.keys.push(key)?;
+            }
         }
         Ok(())
     }
@@ -454,10 +451,8 @@ impl Steps {
 
     /// Keeps which name the last key stands for, if it is not skipped.
     fn keep_key(&mut self, name: Option<usize>) {
-        if let Some(level) = self.levels.get_mut(self.depth.wrapping_sub(1))
-            && let Some(key) = level.keys.last_mut()
-        {
-            *key = name;
+        if let Some(level) = self.levels.get_mut(self.depth.wrapping_sub(1)) {
+            level.key = name;
         }
     }
 
@@ -482,7 +477,7 @@ impl Steps {
             return Ok(());
         };
         for (at, name) in names.iter().enumerate() {
-            if name.skipped || map.keys.contains(&Some(at)) {
+            if name.skipped || map.key == Some(at) || map.keys.contains(&at) {
                 continue;
             }
             // The content of a variant is looked for in a second reading of the map, by one name.
@@ -497,44 +492,49 @@ impl Steps {
 
     fn place(&self) -> Place {
         let (depth, next) = (self.depth, self.next);
-        let keys = match self.levels.get(depth.wrapping_sub(1)) {
-            Some(level) => level.keys.len(),
-            None => 0,
+        let (len, key, keys) = match self.levels.get(depth.wrapping_sub(1)) {
+            Some(level) => (level.len, level.key, level.keys.len()),
+            None => (0, None, 0),
         };
-        Place { depth, keys, next }
+        Place {
+            depth,
+            len,
+            key,
+            keys,
+            next,
+        }
     }
 
     /// Goes back to a place.
     fn rewind(&mut self, place: Place) {
         self.depth = place.depth;
         if let Some(level) = self.levels.get_mut(self.depth.wrapping_sub(1)) {
+            (level.len, level.key) = (place.len, place.key);
             level.keys.truncate(place.keys);
         }
         self.go(place.next, place.next, Last::Rewound);
-    }
-
-    /// Returns the path to what the last step has read, or to the first key that is there twice.
-    fn path(&self, is_duplicate: bool) -> Result<Vec<usize>, AllocError> {
-        let mut path = Vec::new(self.alloc);
-        for level in self.levels.iter().take(self.depth) {
-            // In the last level, perhaps nothing has begun.
-            let Some((last, before)) = level.keys.split_last() else {
-                break;
-            };
-            path.push(before.len())?;
-            if is_duplicate && last.is_some() && before.contains(last) {
-                break;
-            }
-        }
-        Ok(path)
     }
 
     fn text(&self, text: &str) -> Result<String, AllocError> {
         String::from_str(self.alloc, text)
     }
 
+    /// Rejects what the last step has read, or the first key that is there twice.
     fn rejection(&self, part: Part, cause: Cause) -> Rejected {
-        let path = self.path(false)?;
+        let mut path = Vec::new(self.alloc);
+        for level in self.levels.iter().take(self.depth) {
+            // In the last level, perhaps nothing has begun.
+            if level.len == 0 {
+                break;
+            }
+            path.push(level.len - 1)?;
+            if matches!(cause, Cause::Duplicate)
+                && let Some(key) = &level.key
+                && level.keys.contains(key)
+            {
+                break;
+            }
+        }
         Ok(Rejection { path, part, cause })
     }
 
@@ -560,11 +560,6 @@ impl Steps {
         self.rejection(Part::End, Cause::Missing(key))
     }
 
-    fn duplicate(&self) -> Rejected {
-        let (path, part, cause) = (self.path(true)?, Part::Key, Cause::Duplicate);
-        Ok(Rejection { path, part, cause })
-    }
-
     fn unknown_key(&self) -> Rejected {
         let expected = self.text(&self.expected)?;
         self.rejection(Part::Key, Cause::UnknownField(expected))
@@ -582,13 +577,12 @@ impl Steps {
     }
 
     fn wrong_len(&self) -> Rejected {
-        let (mut path, part) = (self.path(false)?, Part::Value);
-        let cause = match self.last {
-            // It is the sequence that has an item too many.
-            Last::Item => Cause::Long(path.pop().unwrap_or(0)),
-            _ => Cause::Length,
-        };
-        Ok(Rejection { path, part, cause })
+        let mut rejection = self.rejection(Part::Value, Cause::Length)?;
+        // It is the sequence that has an item too many.
+        if let Last::Item = self.last {
+            rejection.cause = Cause::Long(rejection.path.pop().unwrap_or(0));
+        }
+        Ok(rejection)
     }
 
     fn invalid(&self) -> Rejected {
