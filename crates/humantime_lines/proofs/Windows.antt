@@ -92,10 +92,10 @@ pub record Started (text rest : List ℕ) (columns left : ℕ) : Type 0 where
   pub utf8 : IsUtf8 front
   pub same : start_within columns (chars text) ≡ chars front ++ start_within left (chars rest)
 
-pub start_read : {text rest after : List ℕ} {columns left c : ℕ} → Started text rest columns left
+one_read : {text rest after : List ℕ} {columns left c : ℕ} → Started text rest columns left
     → rest ≡ encode_utf8 c ++ after → chars rest ≡ c ∷ chars after → IsScalar c → room c ≤ left
     → Started text after columns (left - room c)
-start_read {text} {rest} {after} {columns} {left} {c} now bytes first scalar fits = record {
+one_read {text} {rest} {after} {columns} {left} {c} now bytes first scalar fits = record {
   front = now.front ++ encode_utf8 c;
   whole =
       now.whole ∙ ap (λ r. now.front ++ r) bytes
@@ -108,6 +108,13 @@ start_read {text} {rest} {after} {columns} {left} {c} now bytes first scalar fit
       ∙ sym (append_assoc (chars now.front) (c ∷ []) rest)
       ∙ ap (λ r. r ++ rest) (sym (chars-push now.front c now.utf8 scalar));
 }
+
+pub start_read : (text rest after : List ℕ) (columns left c n : ℕ) → Started text rest columns left
+    → rest ≡ encode_utf8 c ++ after → chars rest ≡ c ∷ chars after → IsScalar c
+    → n ≡ room c → n ≤ left
+    → Started text after columns (left - n)
+start_read text rest after columns left c n now bytes first scalar is fits =
+    rw is (one_read now bytes first scalar (rw is at fits))
 
 start_seam : {text rest : List ℕ} {columns left : ℕ} (now : Started text rest columns left)
     → length text - length rest ≡ length now.front
@@ -135,10 +142,11 @@ pub record Ended (text rest : List ℕ) (columns left : ℕ) : Type 0 where
   pub utf8 : IsUtf8 back
   pub room : line_room (chars back) + left ≡ columns
 
-pub end_read : {text rest before : List ℕ} {columns left : ℕ} (c : ℕ) → Ended text rest columns left
+one_read_back : {text rest before : List ℕ} {columns left : ℕ} (c : ℕ)
+    → Ended text rest columns left
     → rest ≡ before ++ encode_utf8 c → IsScalar c → room c ≤ left
     → Ended text before columns (left - room c)
-end_read {text} {rest} {before} {columns} {left} c now bytes scalar fits = record {
+one_read_back {text} {rest} {before} {columns} {left} c now bytes scalar fits = record {
   back = encode_utf8 c ++ now.back;
   whole = now.whole ∙ ap (λ r. r ++ now.back) bytes ∙ append_assoc before (encode_utf8 c) now.back;
   utf8 = IsUtf8-append (encode_utf8 c) now.back (IsUtf8-encode c scalar) now.utf8;
@@ -147,6 +155,12 @@ end_read {text} {rest} {before} {columns} {left} c now bytes scalar fits = recor
       let first = chars_past_char (encode_utf8 c ++ now.back) now.back c utf8 refl in
       omega (arith, now.room, ap line_room first ∙ line_room-cons c (chars now.back));
 }
+
+pub end_read : (text rest before : List ℕ) (columns left c n : ℕ) → Ended text rest columns left
+    → rest ≡ before ++ encode_utf8 c → IsScalar c → n ≡ room c → n ≤ left
+    → Ended text before columns (left - n)
+end_read text rest before columns left c n now bytes scalar is fits =
+    rw is (one_read_back c now bytes scalar (rw is at fits))
 
 -- Characters have been read whole from the end, or the next one does not fit.
 abbrev pub Stopped : List ℕ → ℕ → Type 0

@@ -25,7 +25,7 @@ fn write_blanks<W: fmt::Write>(f: &mut fmt::Formatter<W>, before: &str) -> fmt::
     ensures { WritesStyledOnOk W.write_str_gives f.old result (blanks before.now) f.new }
 {
     let mut rest = before;
-    while let Some((piece, after)) = rest.split_once('\t') {
+    'pieces: while let Some((piece, after)) = rest.split_once('\t') {
         f.write_repeated(" ", piece.width())?;
         f.write_str("\t")?;
         rest = after;

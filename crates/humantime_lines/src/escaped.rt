@@ -30,7 +30,7 @@ impl fmt::Display for Escaped<'_> {
     ghost output = { λ e. Some (escaped e.0.now) };
 
     fn fmt<W: fmt::Write>(&self, f: &mut fmt::Formatter<W>) -> fmt::Result {
-        for c in self.0.chars() {
+        'chars: for c in self.0.chars() {
             write_escaped_char(f, c)?;
         }
         Ok(())

@@ -120,6 +120,7 @@ impl Display for MarkedLine<'_> {
 }
 
 /// Returns a string with its escapes, after another one.
+#[tactic(auto, using(crate::proofs::Carets::inline_written))]
 fn escaped_text(start: &str, text: &str) -> Result<InlineText<CAPACITY>, fmt::Error>
     ensures { IfOk result (λ shown. inline_text shown ≡ start.now ++ escaped text.now) }
 {

@@ -78,6 +78,7 @@ impl<E: Display> Display for Report<'_, E> {
         report_text r.number message line.before.now line.part.now line.after.now)
         (E.output r.error) };
 
+    #[tactic(auto, using(std::proofs::lemmas::Grind::common_steps))]
     fn fmt<W: fmt::Write>(&self, f: &mut fmt::Formatter<W>) -> fmt::Result {
         if let Some(number) = self.number {
             write!(f, "line {number}: ")?;

@@ -95,7 +95,7 @@ fn line_room(text: &str, most: usize) -> usize
 {
     let mut columns = 0;
     let mut rest = text;
-    while let Some((c, after)) = split_first_char(rest)
+    'chars: while let Some((c, after)) = split_first_char(rest)
         && columns < most
     {
         columns = most.min(columns + room(c));
@@ -109,7 +109,7 @@ fn start_within(text: &str, columns: usize) -> &str
     ensures { chars result.now ≡ start_within columns (chars text.now) }
 {
     let (mut left, mut rest) = (columns, text);
-    while let Some((c, after)) = split_first_char(rest)
+    'chars: while let Some((c, after)) = split_first_char(rest)
         && room(c) <= left
     {
         left -= room(c);
@@ -124,7 +124,7 @@ fn end_within(text: &str, columns: usize) -> &str
     ensures { chars result.now ≡ end_within columns (chars text.now) }
 {
     let (mut left, mut rest) = (columns, text);
-    while let Some((before, c)) = split_last_char(rest)
+    'chars: while let Some((before, c)) = split_last_char(rest)
         && room(c) <= left
     {
         left -= room(c);

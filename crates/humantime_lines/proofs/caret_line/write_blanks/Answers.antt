@@ -2,11 +2,11 @@ use Rattle.std.proofs.Common.{rules, arith}
 use Rattle.humantime_lines.proofs.Carets.{last_piece, next_piece}
 use Rattle.humantime_lines.proofs.caret_line.write_blanks.Goals as goal
 
-pub loop-piece-preserved : goal.loop-piece-preserved
-loop-piece-preserved g c = record {
+pub pieces-preserved : goal.pieces-preserved
+pieces-preserved g c = record {
   utf8 = search rules;
   under = λ flush.
-      let now = c.loop-piece.invariant.under flush in
+      let now = c.pieces.invariant.under flush in
       let filled = c.in_ok-write_repeated.ensures.styled now.wrote.flush (search rules) in
       let tab = c.in_ok-write_str.ensures.styled filled.flush (search rules) in
       next_piece c.in-Some.piece.now now filled tab (omega arith) (search rules);
@@ -14,6 +14,6 @@ loop-piece-preserved g c = record {
 
 pub returns : goal.returns
 returns g c = λ flush ok.
-    let now = c.loop-piece.invariant.under flush in
+    let now = c.pieces.invariant.under flush in
     let filled = c.write_repeated-2.ensures.styled now.wrote.flush ok in
     last_piece now filled (omega arith) (search rules)

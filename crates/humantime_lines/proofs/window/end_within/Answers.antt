@@ -1,12 +1,11 @@
-use Rattle.std.proofs.Common.{◌≤◌, ◌∙◌, [], ap, append-nil, arith, chars, inl, inr, rules, sym}
+use Rattle.std.proofs.Common.{◌∙◌, [], ap, append-nil, arith, chars, inl, inr, rules, sym}
 use Rattle.std.proofs.lemmas.Str.{IsUtf8-nil, chars-nil}
-use Rattle.humantime_lines.specs.Escapes.{room}
 use Rattle.humantime_lines.proofs.Windows.{Stopped, end_boundary, end_read, end_stops}
 use Rattle.humantime_lines.proofs.window.end_within.Goals as goal
 use Rattle.humantime_lines.proofs.window.end_within.Goals.{in-None-1, in-Some+else-room-left}
 
-pub loop-before-init : goal.loop-before-init
-loop-before-init c = record {
+pub chars-init : goal.chars-init
+chars-init c = record {
   utf8 = search rules;
   ended = record {
     back = [];
@@ -16,26 +15,22 @@ loop-before-init c = record {
   };
 }
 
-pub loop-before-preserved : goal.loop-before-preserved
-loop-before-preserved c = record {
+pub chars-preserved : goal.chars-preserved
+chars-preserved c = record {
   utf8 = search rules;
-  ended =
-      let now = c.loop-before.invariant.ended in
-      let last = c.in-Some.ensures.bytes in
-      let fits : room c.in-Some.c ≤ c.loop-before.left = omega arith in
-      rw c.room-left.ensures.columns (end_read c.in-Some.c now last (search rules) fits);
+  ended = search (rules, end_read);
 }
 
 pub split_at-requires : goal.split_at-requires
-split_at-requires c = end_boundary c.loop-before.invariant.ended
+split_at-requires c = end_boundary c.chars.invariant.ended
 
 pub returns : goal.returns
 returns c =
-    let stopped : Stopped (chars c.loop-before.rest.now) c.loop-before.left =
+    let stopped : Stopped (chars c.chars.rest.now) c.chars.left =
     elim c.match-split_last_char.branch [
       | in-None-1 w ↦ inl (grind (arith, chars-nil))
       | in-Some+else-room-left w ↦
-          inr (chars w.in-Some.before.now, w.in-Some.c, w.in-Some.ensures.chars, omega arith)
+          inr (_, _, w.in-Some.ensures.chars, omega arith)
     ] in
-    let now = c.loop-before.invariant in
+    let now = c.chars.invariant in
     ap chars c.split_at.ensures.back ∙ sym (end_stops now.ended now.utf8 stopped)

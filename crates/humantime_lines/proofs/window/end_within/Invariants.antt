@@ -4,11 +4,11 @@ use Rattle.std.proofs.Common.{length}
 use Rattle.humantime_lines.proofs.Windows.{Ended}
 use Rattle.humantime_lines.proofs.window.end_within.Given as goal
 
-abbrev pub invariant-loop-before : goal.invariant-loop-before
-invariant-loop-before l = record {
+abbrev pub invariant-chars : goal.invariant-chars
+invariant-chars l = record {
   utf8 : shadow (Utf8 l.rest);
   ended : Ended l.text l.rest l.columns l.left;
 }
 
-abbrev pub decreases-loop-before : goal.decreases-loop-before
-decreases-loop-before l = length l.rest
+abbrev pub decreases-chars : goal.decreases-chars
+decreases-chars l = length l.rest

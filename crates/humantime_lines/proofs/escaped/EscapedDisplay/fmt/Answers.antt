@@ -16,16 +16,16 @@ one_more {took} {f} {g} {h} cs c now wrote =
     let both = has_written_append took f _ g _ h now wrote in
     rw (flat_map-append escaped_char cs (c ∷ []), append-nil) both
 
-pub loop-c-preserved : goal.loop-c-preserved
-loop-c-preserved g c = λ plain.
-    let now = c.loop-c.invariant plain in
-    one_more c.loop-c.yielded _ now (c.in_ok-write_escaped_char.ensures now.plain (search rules))
+pub chars-preserved : goal.chars-preserved
+chars-preserved g c = λ plain.
+    let now = c.chars.invariant plain in
+    one_more c.chars.yielded _ now (c.in_ok-write_escaped_char.ensures now.plain (search rules))
 
 pub returns-clause-writes : goal.returns-clause-writes
 returns-clause-writes g c = λ plain _.
     let all = YieldsList-from_chars c.args.self.now.0.now (search rules) (search rules) in
-    let yielded = c.loop-c.yielded in
+    let yielded = c.chars.yielded in
     let steps = c.next.ensures.steps in
-    let end = YieldsList-end all yielded _ c.loop-c.yielded_by _ _ c.in-None.is steps in
+    let end = YieldsList-end all yielded _ c.chars.yielded_by _ _ c.in-None.is steps in
     let whole = ap (flat_map escaped_char) (sym (map-id yielded) ∙ end.0) in
-    has_written_of_eq _ _ _ _ _ whole (c.loop-c.invariant plain)
+    has_written_of_eq _ _ _ _ _ whole (c.chars.invariant plain)

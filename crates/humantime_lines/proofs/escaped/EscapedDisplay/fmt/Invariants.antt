@@ -3,6 +3,6 @@ use Rattle.std.specs.Fmt.{HasWritten, IsPlainFormatter}
 use Rattle.humantime_lines.specs.Escapes.{escaped_char}
 use Rattle.humantime_lines.proofs.escaped.EscapedDisplay.fmt.Given as goal
 
-abbrev pub invariant-loop-c : goal.invariant-loop-c
-invariant-loop-c g l = IsPlainFormatter l.initial.f
+abbrev pub invariant-chars : goal.invariant-chars
+invariant-chars g l = IsPlainFormatter l.initial.f
     → HasWritten g.W.Write.write_str_gives l.initial.f (flat_map escaped_char l.yielded) l.f
