@@ -198,6 +198,17 @@ front_decides bs tail t k end utf8 other found cut trim =
     (items_whole before.0 spans read before.1.formed) in
     rw next (refl, front.0, λ r answer. grind (arith, (rw (front.1) at answer.answer), summed, found.0))
 
+pub front_boundary : (bs tail t : List ℕ) (k end : ℕ) → IsUtf8 bs → IsUtf8 t
+    → BeginsSpans (suc k) (trim_front (chars bs)) × (end ≡ span_end k (chars bs))
+    → tail ≡ drop end bs
+    → t ≡ trim_start tail
+    → IsCharBoundary bs (length bs - length t)
+front_boundary bs tail t k end utf8 other found cut trim =
+    (front_decides bs tail t k end utf8 other found cut trim).1
+
+-- What the end of a span within the limits needs.
+pub ruleset fronts = (after_span, front_decides, front_boundary)
+
 -- ---- The fault
 
 -- The row of the table of errors that applies after spans within the limits, if a text overflows,

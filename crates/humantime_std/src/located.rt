@@ -284,7 +284,7 @@ fn overflow_range(text: &str) -> (usize, usize)
 
 /// Returns the offset after the span at an index and the whitespace after it, if the spans up to
 /// this one are within the limits.
-#[tactic(auto, using(crate::proofs::Overflows::after_span))]
+#[tactic(auto, using(crate::proofs::Overflows::fronts))]
 fn end_within_limits(text: &str, index: usize) -> Option<usize>
     ensures { SomeIff result (BeginsWithin (chars text.now) (suc index))
         (span_start (suc index) (chars text.now)) }

@@ -153,6 +153,7 @@ pub fn next_run(last: SystemTime, every: StdDuration, now: SystemTime) -> Option
 
 /// Returns the first of the times `last + every`, `last + 2 * every` and so on that is not before
 /// `last + gap`, if it is a `SystemTime`.
+#[tactic(auto, using(std::proofs::lemmas::Grind::div_ceil_times, std::proofs::lemmas::Int::ints))]
 fn run_after(last: SystemTime, gap: StdDuration, every: StdDuration) -> Option<SystemTime>
     ensures first { let t = last +ℤ pos every in gap ≡ 0 → SomeIff result (t <ℤ moment_end) t }
     ensures never { 0 < gap → every ≡ 0 → IsNone result }
