@@ -3,7 +3,7 @@ use Rattle.humantime.specs.PrivateFunctions.{has_layout}
 use Rattle.humantime.specs.TimestampResults.{weak_answer}
 use Rattle.humantime.specs.Timestamps.{Letter_T, Space, Fields, fraction_digits, has_two_digits, has_punctuation, has_digits, date_time_of, is_valid_date_time, zone_of, fraction_part, may_be_fraction, weak_checks, first_failed, has_separator}
 use Rattle.humantime.specs.declared.date.parse.DateTime.{DateTime}
-use Rattle.std.proofs.Common.{◌≡◌, ℕ, ◌≤◌, List, [], ◌∷◌, length, get_or, drop, refl, arith, ◌+◌, ◌-◌, ◌%◌, ◌^◌, ◌<◌, Bool, cond, eqb, ltb, ◌&&◌, map, replicate, take, Fits, w8, ap, ◌∙◌, ◌*◌, T, le-leb, true, slice_index, Option, Some, None, ◌==◌, if◌then◌else◌, codes, nat_eq, bit_or}
+use Rattle.std.proofs.Common.{◌≡◌, ℕ, ◌≤◌, List, [], ◌∷◌, length, get_or, drop, refl, arith, ◌+◌, ◌-◌, ◌%◌, ◌^◌, ◌<◌, Bool, cond, eqb, ltb, ◌&&◌, map, replicate, take, Fits, w8, ap, ◌∙◌, ◌*◌, T, le-leb, true, false, slice_index, Option, Some, None, ◌==◌, if◌then◌else◌, codes, nat_eq, bit_or}
 use Rattle.std.proofs.lemmas.Bool.{and_parts, agree_below_at}
 use Rattle.std.proofs.lemmas.Bool.Decides.{nat_tests}
 use Rattle.std.proofs.lemmas.Grind.{common_steps}
@@ -30,6 +30,11 @@ pub all_passed : (bytes : List ℕ) → first_failed (weak_checks bytes) ≡ Non
     × (may_be_fraction (fraction_part bytes) ≡ true)
     × (all_ascii_digits (drop 1 (fraction_part bytes)) ≡ true)
 all_passed bytes h = grind (arith, nat_tests)
+
+-- Without a separator, the punctuation is wrong.
+pub no_separator : (bytes : List ℕ) → has_separator bytes ≡ false → has_punctuation bytes ≡ false
+unfolding has_punctuation
+no_separator bytes h = grind (arith, nat_tests)
 
 -- The parts of a right layout.
 pub layout_parts : (bytes : List ℕ) → has_layout bytes ≡ true
@@ -217,22 +222,31 @@ summed bytes =
       second = back 3;
     }
 
-pub date_time_summed : (bytes : List ℕ) → 19 ≤ length bytes → has_digits bytes ≡ true
+pub date_time_summed : (bytes : List ℕ) → has_layout bytes ≡ true
     → summed bytes ≡ date_time_of bytes
-date_time_summed bytes long digits =
-    ap summed (nineteen bytes long) ∙ grind (
+date_time_summed bytes layout =
+    let parts = layout_parts bytes layout in
+    ap summed (nineteen bytes parts.0) ∙ grind (
       arith,
-      (pairs_from_test bytes digits),
+      (pairs_from_test bytes parts.2),
       has_two_from_test,
       number_of_four,
       number_of_two,
     )
 
 -- What the checks of a timestamp need, and the definitions that they open.
-pub ruleset checks = (layout_parts, common_steps, nat_tests, err_from_is_err_and, le-leb, take_rest)
+pub ruleset checks = (
+  layout_parts,
+  common_steps,
+  nat_tests,
+  err_from_is_err_and,
+  le-leb,
+  take_rest,
+  no_separator,
+)
 
 unfoldable pub checks_open : ⊤
-unfolding has_separator has_layout weak_answer
+unfolding has_layout weak_answer
 checks_open = tt
 
 unfoldable pub marks_open : ⊤

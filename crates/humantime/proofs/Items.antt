@@ -7,18 +7,19 @@ use Rattle.humantime.specs.Items.{SpanView, AreSpanViews, items_of, AreItems, Is
 use Rattle.humantime.specs.Laws.{IsTiled, is_gap, slices_of}
 use Rattle.humantime.specs.PrivateFunctions.{after_one_whitespace, read_span}
 use Rattle.humantime.specs.Walks.{walk, walk_of, items, sum_spans, fault_at}
-use Rattle.std.proofs.Common.{if◌then◌else◌, ◌≡◌, ◌≢◌, IsUtf8, chars, arith, ℕ, Bool, true, List, [], ◌∷◌, map, Option, Result, Err, refl, ◌≤◌, ◌<◌, false, None, Ok, length, length-append, ◌++◌, Some, sym, ap, append_assoc, append-nil, flat_map, is_ok, option_to_list}
+use Rattle.std.proofs.Common.{if◌then◌else◌, ◌≡◌, ◌≢◌, IsUtf8, bytes_eq, chars, arith, ℕ, Bool, true, List, [], ◌∷◌, map, Option, Result, Err, refl, ◌≤◌, ◌<◌, false, None, Ok, length, length-append, ◌++◌, Some, sym, ap, append_assoc, append-nil, flat_map, is_ok, option_to_list, ◌==◌, ne_eqb}
 use Rattle.std.proofs.lemmas.Bool.{and_parts}
 use Rattle.std.proofs.lemmas.Bool.Decides.{nat_tests}
 use Rattle.std.proofs.lemmas.Grind.{common_steps}
 use Rattle.std.proofs.lemmas.List.{append_cancel_right}
 use Rattle.std.proofs.lemmas.List.Folds.{list_all-append}
+use Rattle.std.proofs.lemmas.Slice.Eq.{bytes_eq-Decides}
 use Rattle.std.proofs.lemmas.Str.{encodes-chars, encode_ascii}
 use Rattle.std.specs.List.{list_all}
 use Rattle.std.specs.Str.{byte}
 use Rattle.humantime.proofs.Offsets.{no_bytes, some_chars}
 use Rattle.humantime.proofs.TextWalks.{items_found_at, items_walked, Steps, by_walk, walk-go}
-use Rattle.humantime.proofs.Outcomes.{duration_answer-items}
+use Rattle.humantime.proofs.Outcomes.{duration_answer-items, zero_outcome}
 use Rattle.humantime.proofs.Spellings.{no_fault_is_span, next_of, each-append}
 use Rattle.humantime.proofs.Slices.{one_view_each, is_span_view, spelled_at, next_bytes}
 use Rattle.humantime.proofs.Characters.{take_while-only, take_while-drop_while}
@@ -38,10 +39,13 @@ unfolding items items_from
 sum_views_outcome text some = grind (arith, spans_read, (duration_answer-items text some))
 
 -- The same for the bytes of the text, since a text whose one character is `0` is that byte.
-pub sum_answers : (bs : List ℕ) → IsUtf8 bs → bs ≢ bare_zero
-    → sum_spans 0 (map span_in (item_views (chars bs))) ≡ duration_answer (chars bs)
-sum_answers bs u n =
-    sum_views_outcome (chars bs) (λ e. n (grind (arith, (encodes-chars bs u), encode_ascii)))
+pub sum_outcome : (bytes : List ℕ) → IsUtf8 bytes → bytes_eq bytes bare_zero ≡ false
+    → duration_answer (chars bytes) ≡ sum_spans 0 (map span_in (item_views (chars bytes)))
+sum_outcome bytes u other =
+    let zero : chars bytes ≡ bare_zero → bytes ≡ bare_zero =
+    λ e. grind (arith, (encodes-chars bytes u), encode_ascii) in
+    sym (sum_views_outcome (chars bytes)
+    (λ e. let same = zero e in grind (arith, (bytes_eq-Decides bytes bare_zero))))
 
 -- Each span of a walk has its view, up to the rest that the walk leaves.
 walk_has_views : (text : List ℕ) → Steps text
@@ -72,6 +76,10 @@ one_span_view text others o =
       one_view_each,
       a,
     )
+
+pub items_summed : (text : List ℕ) (others : List (Result SpanView Fault)) → AreItems text others
+    → sum_spans 0 (map span_in others) ≡ sum_spans 0 (map span_in (item_views text))
+items_summed text others o = ap (λ xs. sum_spans 0 (map span_in xs)) (one_span_view text others o)
 
 -- If an error is the first item, it is the result of parsing.
 pub first_error_answers : (text : List ℕ) (listed others : List (Result SpanView Fault)) (e : Fault)
@@ -115,12 +123,26 @@ step_shorter text rest next x u v e =
       next_bytes,
     )
 
+-- So fewer bytes than those of the text are left.
+pub later_step : (text rest next : List ℕ) (x : SpanView) → IsUtf8 rest → IsUtf8 next
+    → length rest ≤ length text → Ok (x, chars next) ≡ read_span (chars text) (chars rest)
+    → (length next == length text) ≡ false
+later_step text rest next x u v within e =
+    ne_eqb _ _ (λ same. omega (arith, same, within, (step_shorter (chars text) rest next x u v e)))
+
 pub step_goes : (first : Bool) (text rest next : List ℕ) (x : SpanView)
     → Ok (x, next) ≡ read_span text rest
     → items_from first text rest ≡ Ok x ∷ items_from false text (drop_while is_whitespace next)
 unfolding items_from
 step_goes first text rest next x e =
     grind (arith, common_steps, (read_without_fault text rest next x e), (walk-go text rest))
+
+pub step_read : (first : Bool) (text rest next : List ℕ) (x : SpanView) → IsUtf8 rest → IsUtf8 next
+    → length rest ≤ length text → Ok (x, chars next) ≡ read_span (chars text) (chars rest)
+    → items_from first (chars text) (chars rest) ≡ Ok x ∷
+    items_from (length next == length text) (chars text) (drop_while is_whitespace (chars next))
+step_read first text rest next x u v within e =
+    rw (later_step text rest next x u v within e) (step_goes first (chars text) (chars rest) (chars next) x e)
 
 -- ==== The slices of the items of a text tile it up to where the spans stop.
 
@@ -204,4 +226,10 @@ text_tiled text items are each =
     grind (arith, list_all-append, and_parts, append-nil, (front_tiled text items are))
 
 -- What `next` needs.
-pub ruleset next_item = (step_ended, step_stopped, no_bytes, some_chars, common_steps, nat_tests)
+pub ruleset next_item = (step_ended, step_stopped, step_read, no_bytes, some_chars)
+
+-- What `read_duration` needs.
+pub ruleset outcomes = (zero_outcome, sum_outcome)
+
+-- What the sum of the items of a text needs.
+pub ruleset item_sums = (items_summed, common_steps, nat_tests)

@@ -1,6 +1,6 @@
 -- Offsets in a text, the characters at them, and the ends of a text.
 use Rattle.humantime.specs.Characters.{begins, drop_while, take_while, is_letter, is_whitespace, is_digit, byte_length, offset_of}
-use Rattle.humantime.specs.DurationErrors.{IsCharStartIn, IsRangeIn, IsPartOf, may_follow_span}
+use Rattle.humantime.specs.DurationErrors.{IsCharStartIn, may_follow_span}
 use Rattle.humantime.specs.PrivateFunctions.{after_one_whitespace, whitespace_len}
 use Rattle.humantime.specs.PrivateTypes.{IsTail}
 use Rattle.std.proofs.Common.{◌≡◌, ◌<◌, ◌≤◌, ◌+◌, ℕ, List, [], ◌∷◌, ◌++◌, length, get_or, drop, refl, ap, sym, ◌∙◌, arith, length-drop, IsUtf8, IsCharBoundary, chars, encode_utf8, encode_utf8_all, Bool, true, false, ◌≢◌, ◌-◌, take, length-append, length-take, ◌==◌, ◌&&◌, ◌||◌, nat_lt, ne_eqb, get_or-drop, take-append-drop, drop-drop}
@@ -11,7 +11,7 @@ use Rattle.std.proofs.lemmas.List.{append_cancel_right}
 use Rattle.std.proofs.lemmas.Str.{IsUtf8-drop, IsCharBoundary-past_char, drop_past_char, chars_past_char, byte_from_char, char_from_byte, len_utf8_ascii, len_utf8_bounds, encodes-chars, encode_same, IsCharBoundary-start, IsUtf8-take, IsCharBoundary-from_drop, chars-append, chars-nil}
 use Rattle.std.specs.Char.{is_ascii_alphabetic, is_ascii_digit, len_utf8}
 use Rattle.std.proofs.Math.Utf8.{encode}
-use Rattle.humantime.proofs.Characters.{ascii_whitespace, digit_not_whitespace, letter_not_whitespace, whitespace_in_number, take_while-drop_while}
+use Rattle.humantime.proofs.Characters.{ascii_whitespace, digit_in_number, digit_not_whitespace, letter_not_whitespace, whitespace_in_number, take_while-drop_while}
 
 -- ==== Offsets in a text, and the characters at them.
 
@@ -130,9 +130,9 @@ ascii_letter text at u here letter =
     grind (arith, common_steps, nat_tests, (ascii_at text at u here))
 
 pub mu_letter : (text : List ℕ) (at : ℕ) → IsUtf8 text → IsCharStartIn text at
-    → is_ascii_alphabetic (get_or text at 0) ≡ false → has_mu text at ≡ true
-    → (is_ascii_alphabetic (get_or text at 0) ≡ false) × DropsLetter text at (at + 2)
-mu_letter text at u here other mu =
+    → has_mu text at ≡ true
+    → (128 ≤ get_or text (at + 1) 0) × DropsLetter text at (at + 2)
+mu_letter text at u here mu =
     grind (arith, common_steps, nat_tests, (mu_over text at u here.1))
 
 pub no_letter : (text : List ℕ) (at : ℕ) → IsUtf8 text → IsCharStartIn text at
@@ -159,10 +159,16 @@ pub whitespace_ends : (text : List ℕ) (at : ℕ) → IsUtf8 text → 0 < lengt
 whitespace_ends text at u some white n =
     grind (arith, whitespace_in_number, (whitespace_over text 0 u (some, IsCharBoundary-start text u)))
 
-pub whitespace_boundary : (text : List ℕ) (at : ℕ) → IsUtf8 text → 0 < length text
-    → 0 < whitespace_len (chars text) → at ≡ 0 + whitespace_len (chars text)
-    → IsCharBoundary text at
-whitespace_boundary text at u some white n = (whitespace_ends text at u some white n).0
+-- A character begins after leading whitespace.
+pub whitespace_boundary : (text : List ℕ) → IsUtf8 text → 0 < length text
+    → 0 < whitespace_len (chars text)
+    → (0 < whitespace_len (chars text)) × IsCharBoundary text (whitespace_len (chars text))
+whitespace_boundary text u some white = (white, (whitespace_ends text _ u some white (omega arith)).0)
+
+-- A digit ends a span.
+pub digit_ends : (cs : List ℕ) → begins is_digit cs ≡ true
+    → (begins is_digit cs ≡ true) × (may_follow_span cs ≡ true) × (after_one_whitespace cs ≡ cs)
+digit_ends cs d = grind (arith, common_steps, digit_in_number, digit_not_whitespace)
 
 -- A space ends a span, and is one byte.
 pub space_ends : (text : List ℕ) → IsUtf8 text → 0 < length text → get_or text 0 0 ≡ 32
@@ -216,32 +222,6 @@ pub tail_offset : (text rest : List ℕ) → IsTail text rest
     → length text - length rest ≡ offset_of (chars text) (chars rest)
 tail_offset text rest t = grind (arith, encodes-chars)
 
--- A rest that is not empty begins at a character.
-pub tail_place : (text rest : List ℕ) → IsTail text rest → chars rest ≢ []
-    → IsCharStartIn text (offset_of (chars text) (chars rest))
-tail_place text rest t some =
-    rw (sym (tail_offset text rest t)) (grind (arith, common_steps, tail_boundary, chars-nil))
-
-pub tail_range : (text a b : List ℕ) → IsTail text a → IsTail a b
-    → IsRangeIn text (offset_of (chars text) (chars a)) (offset_of (chars text) (chars b))
-tail_range text a b t u =
-    let v = tail_tail text a b t u in
-    rw (sym (tail_offset text a t), sym (tail_offset text b v)) (
-      omega (arith, u.shorter),
-      tail_boundary text a t,
-      tail_boundary text b v,
-    )
-
--- The text between two rests is a slice of the text.
-pub tail_part : (text a b part : List ℕ) → IsTail text a → IsTail a b → a ≡ part ++ b
-    → IsPartOf text part (offset_of (chars text) (chars a)) (offset_of (chars text) (chars b))
-tail_part text a b part t u e = (
-  tail_range text a b t u,
-  rw
-      (sym (tail_offset text a t), sym (tail_offset text b (tail_tail text a b t u)))
-      (grind (arith, common_steps)),
-)
-
 -- The text before an offset, if the longest prefix that passes a test ends there.
 pub front_is : (p : ℕ → Bool) (text : List ℕ) (at : ℕ) → IsUtf8 text → IsCharBoundary text at
     → chars (drop at text) ≡ drop_while p (chars text)
@@ -293,7 +273,15 @@ pub ruleset whitespace_at =
     (ascii_at, ascii_whitespace, no_whitespace_at_mu, common_steps, nat_tests)
 
 -- What ends a span.
-pub ruleset span_ends = (rests, space_ends, whitespace_ends, len_utf8_bounds, common_steps)
+pub ruleset span_ends = (
+  rests,
+  space_ends,
+  whitespace_ends,
+  whitespace_boundary,
+  digit_ends,
+  len_utf8_bounds,
+  common_steps,
+)
 
 -- The offset of a rest in its text, in bytes.
-pub ruleset offsets = (some_chars, tail_boundary, tail_place, tail_tail, whole_tail)
+pub ruleset offsets = (some_chars, no_bytes, tail_tail, whole_tail, common_steps)

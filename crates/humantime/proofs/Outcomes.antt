@@ -6,11 +6,12 @@ use Rattle.humantime.specs.Durations.{SpelledSpan, Reads, value, Formed, WithinL
 use Rattle.humantime.specs.Items.{Items, AreSpansAndStop, items_of}
 use Rattle.humantime.specs.Laws.{ExactlyOne, IsOutcome, IsZeroOrSpans}
 use Rattle.humantime.specs.Walks.{items, sum_spans}
-use Rattle.std.proofs.Common.{◌≡◌, ◌≢◌, ◌⊎◌, ◌↔◌, ℕ, List, [], ◌∷◌, ◌++◌, Option, Some, None, Result, Ok, Err, refl, sym, ◌∙◌, inl, inr, arith, append_assoc, sum_by, IsPermutation, IfErr, chars, option_map, unwrap_or, bytes_eq}
+use Rattle.std.proofs.Common.{◌≡◌, ◌≢◌, ◌⊎◌, ◌↔◌, ℕ, List, [], ◌∷◌, ◌++◌, Option, Some, None, true, Result, Ok, Err, refl, sym, ◌∙◌, inl, inr, arith, append_assoc, sum_by, IsPermutation, IfErr, option_map, unwrap_or, bytes_eq}
 use Rattle.std.proofs.lemmas.Bool.{cases_Bool}
 use Rattle.std.proofs.lemmas.Grind.{common_steps}
 use Rattle.std.proofs.lemmas.Slice.Eq.{bytes_eq-Decides}
 use Rattle.std.specs.List.{AllByRecursion}
+use Rattle.std.specs.Str.{chars}
 use Rattle.std.proofs.lemmas.List.Sorted.{sum_by-IsPermutation}
 use Rattle.humantime.specs.declared.duration.error.DurationError.{DurationError}
 use Rattle.humantime.proofs.Sums.{spans_summed, within_from-front, within_tells, value-cons}
@@ -24,6 +25,13 @@ use Rattle.humantime.proofs.TextWalks.{front_walked, items_found, items_walked, 
 duration_answer-zero : duration_answer bare_zero ≡ Ok 0
 unfolding duration_answer
 duration_answer-zero = refl
+
+pub zero_outcome : (bytes : List ℕ) → bytes_eq bytes bare_zero ≡ true
+    → duration_answer (chars bytes) ≡ Ok 0
+unfolding chars
+zero_outcome bytes e =
+    let same : bytes ≡ bare_zero = grind (arith, (bytes_eq-Decides bytes bare_zero)) in
+    rw same duration_answer-zero
 
 pub duration_answer-items : (text : List ℕ) → text ≢ bare_zero
     → duration_answer text ≡ sum_spans 0 (items_of (items text).spans (items text).stop)

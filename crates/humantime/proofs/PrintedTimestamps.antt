@@ -56,8 +56,17 @@ two_set (suc at) (x ∷ xs) a b h =
     rw (suc-add at 1, suc-add at 2) (ap (λ (ys : List ℕ). x ∷ ys) (two_set at xs a b (omega arith)))
 two_set at xs a b h = absurd (omega arith)
 
--- The lemmas about two digits that are written one by one.
-pub ruleset pair_written = (two_set, tens_at, ones_at)
+-- The same two bytes, the second one first.
+pub two_set_back : (at : ℕ) (xs : List ℕ) (a b : ℕ) → at + 2 ≤ length xs
+    → slice_set (slice_set xs (at + 1) b) at a ≡ take at xs ++ (a ∷ b ∷ []) ++ drop (at + 2) xs
+two_set_back zero (x ∷ y ∷ ys) a b h = refl
+two_set_back (suc at) (x ∷ xs) a b h =
+    rw (suc-add at 1, suc-add at 2)
+    (ap (λ (ys : List ℕ). x ∷ ys) (two_set_back at xs a b (omega arith)))
+two_set_back at xs a b h = absurd (omega arith)
+
+-- The lemmas about two digits that are written one by one, in either order.
+pub ruleset pair_written = (two_set, two_set_back, tens_at, ones_at)
 
 -- ==== The digits of a fraction: the first `k` of nine are the nanoseconds, rounded down to `k`
 -- digits.

@@ -6,7 +6,6 @@ use Rattle.humantime.specs.Items.{items_of}
 use Rattle.humantime.specs.Values.{nanos_per_second}
 use Rattle.humantime.specs.Walks.{add_all, add_span, sum_spans}
 use Rattle.std.proofs.Common.{◌≡◌, ℕ, ◌+◌, ◌/◌, ◌≤◌, true, List, [], ◌∷◌, ◌++◌, Some, None, refl, arith, append_assoc, ◌⊎◌, Option, Result, Ok, Err, map, Bool, ◌&&◌, if◌then◌else◌, option_map, unwrap_or, Decides}
-use Rattle.std.proofs.lemmas.Bool.Decides.{nat_tests}
 use Rattle.std.proofs.lemmas.Grind.{common_steps}
 use Rattle.std.proofs.lemmas.List.Folds.{list_all-append}
 use Rattle.std.proofs.lemmas.List.Sums.{sum_by_push, sum_by-append}
@@ -117,6 +116,3 @@ room_from_small t (x ∷ xs) small fits =
 pub small_have_room : (xs : List Quantity) → AllByRecursion IsSmall xs
     → total xs / nanos_per_second ≤ u64_max → AllHaveRoom xs
 small_have_room xs small fits = (room_tells xs).0 (room_from_small 0 xs small (grind arith))
-
--- The tests of a sum of spans.
-pub ruleset sums = (common_steps, nat_tests)

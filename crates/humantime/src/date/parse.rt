@@ -1,12 +1,15 @@
 //! Parses timestamps: [`parse_rfc3339`] in the strict format, and [`parse_rfc3339_weak`] in the
 //! weak format.
 
-ghost use Rattle.std.specs.Prelude.{◌≡◌, ◌^◌, ◌<◌, ◌≤◌, length, false, IsTrue, IfSome, SomeIff, Err};
+ghost use Rattle.std.specs.Prelude.{◌≡◌, ◌^◌, ◌<◌, ◌≤◌, length, false, true, IsTrue, IfOk, IfSome, SomeIff, Err, Ok, nat_le, ◌&&◌, if◌then◌else◌};
 ghost use Rattle.std.specs.Char.{is_ascii_digit};
 ghost use Rattle.std.specs.List.{list_all};
+ghost use Rattle.std.specs.Str.{all_ascii_digits};
+ghost use Rattle.humantime.specs.declared.date.error.TimestampError.TheVariants.{InvalidDigit};
 ghost use Rattle.humantime.specs.Prelude.{IsStrictAnswer, IsWeakAnswer, strict_answer, weak_answer};
 ghost use Rattle.humantime.specs.Timestamps;
 ghost use Rattle.humantime.specs.Timestamps.{ZeroOffset, date_time_of, ends_in, has_separator, is_valid_date_time, seconds_of};
+ghost use Rattle.humantime.specs.Values.{nanos_per_second};
 ghost use Rattle.humantime.specs.PrivateFunctions.{digits_answer, fraction_answer, has_layout};
 
 use crate::calendar::{Date, Turns, day_number};
@@ -185,8 +188,7 @@ fn ends_in_zero_offset(bytes: &[u8]) -> bool
 fn read_timestamp(bytes: &[u8]) -> Result<SystemTime, TimestampError>
     ensures { result ≡ weak_answer bytes.now }
 {
-    // Byte 10 separates the date from the time, which `parse_date_time` requires.
-    if bytes.len() < 19 || (bytes[10] != b'T' && bytes[10] != b' ') {
+    if !has_separator(bytes) {
         return Err(TimestampError::InvalidFormat);
     }
     let Some(date_time) = parse_date_time(bytes) else {
@@ -195,6 +197,15 @@ fn read_timestamp(bytes: &[u8]) -> Result<SystemTime, TimestampError>
     let seconds = unix_seconds(date_time).ok_or(TimestampError::OutOfRange)?;
     let nanos = fraction_after_seconds(&bytes[19..])?;
     Ok(SystemTime::after_epoch(seconds, nanos))
+}
+
+/// Returns `true` if the string is as long as a date and a time, and byte 10 separates them.
+#[inline(always)]
+#[tactic(auto, unfolding(crate::specs::Timestamps::has_separator))]
+fn has_separator(bytes: &[u8]) -> bool
+    ensures { result ≡ (nat_le 19 (length bytes.now) && Timestamps.has_separator bytes.now) }
+{
+    bytes.len() >= 19 && (bytes[10] == b'T' || bytes[10] == b' ')
 }
 
 /// Returns the error of a string for which [`parse_date_time`] returns `None`. If the punctuation
@@ -216,34 +227,61 @@ fn layout_error(bytes: &[u8]) -> TimestampError
 
 /// Returns the date and time in the first 19 bytes, or `None` if a byte is not the digit or
 /// punctuation that its position requires. The caller must have tested the separator.
-///
-/// All bytes are tested at once. The difference between a byte and its minimum wraps around to a
-/// large number if the byte is below it, so that one saturating subtraction of the range tests both
-/// bounds: it leaves 0 exactly if the byte is in range. Then `dot4` multiplies each digit by its
-/// weight and adds up the products of each group of four bytes.
 #[inline(always)]
-#[tactic(auto, using(crate::proofs::Checks::sums_fit))]
 fn parse_date_time(bytes: &[u8]) -> Option<DateTime>
     requires long { 19 ≤ length bytes.now }
     requires separator { IsTrue (has_separator bytes.now) }
     ensures { SomeIff result (IsTrue (has_layout bytes.now)) (date_time_of bytes.now) }
 {
+    if !is_in_layout(bytes) {
+        return None;
+    }
+    Some(date_time_at(bytes))
+}
+
+/// Returns `true` if each of the first 19 bytes is the digit or punctuation that its position
+/// requires. The caller must have tested the separator.
+///
+/// All bytes are tested at once. The difference between a byte and its minimum wraps around to a
+/// large number if the byte is below it, so that one saturating subtraction of the range tests both
+/// bounds: it leaves 0 exactly if the byte is in range.
+#[inline(always)]
+fn is_in_layout(bytes: &[u8]) -> bool
+    requires long { 19 ≤ length bytes.now }
+    requires separator { IsTrue (has_separator bytes.now) }
+    ensures { result ≡ has_layout bytes.now }
+{
     let front = u8x16::from_slice(bytes) - u8x16::from_slice(&FRONT_MIN);
     let back = u8x16::from_slice(&bytes[3..]) - u8x16::from_slice(&BACK_MIN);
     let beyond = front.saturating_sub(u8x16::from_slice(&FRONT_RANGE))
         | back.saturating_sub(u8x16::from_slice(&BACK_RANGE));
-    if !beyond.simd_eq(u8x16::splat(0)).all() {
-        return None;
-    }
+    beyond.simd_eq(u8x16::splat(0)).all()
+}
+
+/// Returns the date and time in the first 19 bytes, of which [`is_in_layout`] is true.
+///
+/// `dot4` multiplies each digit by its weight and adds up the products of each group of four bytes.
+#[inline(always)]
+#[tactic(auto, using(crate::proofs::Checks::sums_fit))]
+fn date_time_at(bytes: &[u8]) -> DateTime
+    requires long { 19 ≤ length bytes.now }
+    requires layout { has_layout bytes.now ≡ true }
+    ensures { result ≡ date_time_of bytes.now }
+{
+    let front = u8x16::from_slice(bytes) - u8x16::from_slice(&FRONT_MIN);
+    let back = u8x16::from_slice(&bytes[3..]) - u8x16::from_slice(&BACK_MIN);
     let [year, month, day, minute] = front.dot4(u8x16::from_slice(&FRONT_WEIGHTS)).to_array();
     let [last_digit, _, hour, second] = back.dot4(u8x16::from_slice(&BACK_WEIGHTS)).to_array();
-    let year = year * 10 + last_digit;
-    Some(DateTime {
-        date: Date { year, month, day },
+    DateTime {
+        date: Date {
+            year: year * 10 + last_digit,
+            month,
+            day,
+        },
         hour,
         minute,
         second,
-    })
+    }
 }
 
 /// Returns the number of seconds from 1970-01-01T00:00:00Z to a date and time, or `None` if the
@@ -270,7 +308,8 @@ fn unix_seconds(when: DateTime) -> Option<u64>
 #[inline(always)]
 #[tactic(auto, unfolding(crate::proofs::TimestampParts::fractions_open))]
 fn fraction_after_seconds(rest: &[u8]) -> Result<u32, TimestampError>
-    ensures { result ≡ fraction_answer (Timestamps.before_zone rest.now) }
+    ensures value { result ≡ fraction_answer (Timestamps.before_zone rest.now) }
+    ensures bound { IfOk result (λ n. n < nanos_per_second) }
 {
     match before_zone(rest) {
         [] => Ok(0),
@@ -286,7 +325,8 @@ fn fraction_after_seconds(rest: &[u8]) -> Result<u32, TimestampError>
 #[inline(always)]
 #[tactic(auto, using(crate::proofs::TimestampParts::nine_digits))]
 fn fraction_nanos(digits: &[u8]) -> Result<u32, TimestampError>
-    ensures { result ≡ digits_answer digits.now }
+    ensures value { result ≡ digits_answer digits.now }
+    ensures bound { IfOk result (λ n. n < nanos_per_second) }
 {
     let mut nanos = 0;
     // The nanoseconds of a 1 at this place.
@@ -302,9 +342,19 @@ fn fraction_nanos(digits: &[u8]) -> Result<u32, TimestampError>
         nanos += place_value * (digit - b'0') as u32;
         place_value /= 10;
     }
-    are_digits(&digits[9..])
-        .then_some(nanos)
-        .ok_or(TimestampError::InvalidDigit)
+    nanos_before(nanos, &digits[9..])
+}
+
+/// Returns the nanoseconds of the first nine digits, or an error if one of the others is no digit.
+#[inline(always)]
+fn nanos_before(nanos: u32, others: &[u8]) -> Result<u32, TimestampError>
+    ensures { result ≡ (if all_ascii_digits others.now then Ok nanos else Err InvalidDigit) }
+{
+    if are_digits(others) {
+        Ok(nanos)
+    } else {
+        Err(TimestampError::InvalidDigit)
+    }
 }
 
 /// Returns `true` if all bytes are digits.

@@ -255,6 +255,7 @@ impl Rfc3339Timestamp {
     #[inline(always)]
     fn write_parts(&self, date: Date, second_of_day: u32, buf: &mut [u8; 30]) -> usize
         requires { IsDateAndSecondOf date second_of_day self.now.moment }
+        ensures given { IsDateAndSecondOf date second_of_day self.now.moment }
         ensures fits { result ≤ 30 }
         ensures text { take result buf.new ≡ fields_text (printed_fields date second_of_day
             (nano_of self.now.moment) self.now.places) }

@@ -8,7 +8,7 @@ ghost use Rattle.humantime.specs.PrivateFunctions.{spelled_in};
 ghost use Rattle.humantime.specs.Walks;
 ghost use Rattle.humantime.specs.Walks.{add, sum_spans};
 ghost use Rattle.humantime.specs.Prelude.{AreItems, IsDurationAnswer, PointsInto, items_left, result_view, text_of};
-ghost use Rattle.humantime.specs.DurationResults.{item_views, span_in};
+ghost use Rattle.humantime.specs.DurationResults.{duration_answer, item_views, span_in};
 
 use crate::duration::digits::{Fraction, power_of_ten};
 use crate::duration::error::DurationError;
@@ -114,7 +114,7 @@ pub fn spans(s: &str) -> SpanIter<'_>
 
 /// Returns the sum of the spans of a string, or the string's first error.
 #[inline(always)]
-#[tactic(auto, using(crate::proofs::Sums::sums), unfolding(crate::specs::Walks::sum_spans))]
+#[tactic(auto, using(crate::proofs::Items::item_sums), unfolding(crate::specs::Walks::sum_spans))]
 fn sum_of<'a>(text: &'a str) -> Result<StdDuration, DurationError<'a>>
     ensures value { result_view result ≡ sum_spans 0 (map span_in (item_views (chars text.now))) }
     ensures offsets { IfErr result (PointsInto text.now) }
@@ -132,6 +132,21 @@ fn sum_of<'a>(text: &'a str) -> Result<StdDuration, DurationError<'a>>
         }
     }
     Ok(total)
+}
+
+/// Returns the duration that a string represents, or the string's first error.
+///
+/// The contract of [`parse_duration`] follows from this one.
+#[inline(always)]
+#[tactic(auto, using(crate::proofs::Items::outcomes))]
+fn read_duration(s: &str) -> Result<StdDuration, DurationError<'_>>
+    ensures value { result_view result ≡ duration_answer (chars s.now) }
+    ensures offsets { IfErr result (PointsInto s.now) }
+{
+    if s == "0" {
+        return Ok(StdDuration::ZERO);
+    }
+    sum_of(s)
 }
 
 /// Parses a duration, such as `2h 37min`.
@@ -182,8 +197,5 @@ fn sum_of<'a>(text: &'a str) -> Result<StdDuration, DurationError<'a>>
 pub fn parse_duration(s: &str) -> Result<StdDuration, DurationError<'_>>
     ensures { IsDurationAnswer s.now result }
 {
-    if s == "0" {
-        return Ok(StdDuration::ZERO);
-    }
-    sum_of(s)
+    read_duration(s)
 }

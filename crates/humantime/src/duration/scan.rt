@@ -6,7 +6,7 @@
 //! the end of `text`.
 
 ghost use Rattle.std.specs.Prelude.{◌≡◌, ◌==◌, ◌+◌, ◌++◌, ◌<◌, ◌&&◌, ◌||◌, true, chars, option_map, IfSome, ◌≢◌};
-ghost use Rattle.std.specs.Prelude.{IfOk, MatchResult, length};
+ghost use Rattle.std.specs.Prelude.{IfOk, MatchResult, length, drop, IsCharBoundary};
 ghost use Rattle.humantime.specs.Characters.{begins, drop_while, is_digit, is_letter, is_whitespace, offset_of, take_while};
 ghost use Rattle.humantime.specs.DurationErrors.{IsCharStartIn, after_point, PointsInto};
 ghost use Rattle.humantime.specs.PrivateFunctions;
@@ -109,7 +109,7 @@ fn begins_with_digit(text: &str) -> bool
 /// the number and the rest, or `None` if its value does not fit in a `u64`. The string must begin
 /// with a digit.
 #[inline(always)]
-#[tactic(auto, using(crate::proofs::Offsets::rests, crate::proofs::SpanParts::numbers))]
+#[tactic(auto, using(crate::proofs::SpanParts::numbers))]
 fn read_number(text: &str) -> Option<(Number<'_>, &str)>
     requires { begins is_digit (chars text.now) ≡ true }
     ensures read { read_view number_view result ≡ PrivateFunctions.read_number (chars text.now) }
@@ -156,7 +156,7 @@ fn skip_point(text: &str) -> Option<&str>
 /// and between them. Returns the fraction with this part of the string, and the rest, or `None` if
 /// there are more than 19 digits before the trailing zeros.
 #[inline(always)]
-#[tactic(auto, using(crate::proofs::Offsets::rests, crate::proofs::Characters::digit_is))]
+#[tactic(auto, using(crate::proofs::SpanParts::fraction_digits))]
 fn read_fraction(text: &str) -> Option<((Fraction, &str), &str)>
     ensures read { read_view fraction_view result
         ≡ PrivateFunctions.read_fraction (chars text.now) }
@@ -248,7 +248,10 @@ type ReadSpan<'a> = Result<(Span<'a>, &'a str), DurationError<'a>>;
 #[tactic(auto, using(crate::proofs::Offsets::tail_offset))]
 fn offset_in(text: &str, rest: &str) -> usize
     requires { IsTail text.now rest.now }
-    ensures { result ≡ offset_of (chars text.now) (chars rest.now) }
+    ensures offset { result ≡ offset_of (chars text.now) (chars rest.now) }
+    ensures place { IsCharBoundary text.now result }
+    ensures tail { rest.now ≡ drop result text.now }
+    ensures len { result + length rest.now ≡ length text.now }
 {
     text.len() - rest.len()
 }
