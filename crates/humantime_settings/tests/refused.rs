@@ -17,6 +17,10 @@ fn toml_to_json(alloc: Global, text: &str) -> Answer {
     to_json(alloc, &from_toml::<Lists>(alloc, text)?)
 }
 
+fn json_to_json(alloc: Global, text: &str) -> Answer {
+    to_json(alloc, &from_json::<Lists>(alloc, text)?)
+}
+
 fn before_1970(alloc: Global, _text: &str) -> Answer {
     to_json(alloc, &AsText(SystemTime::from_parts(-1, 0)))
 }
@@ -128,17 +132,30 @@ fn type_in_toml(rt: HostRuntime) {
 fn names(rt: HostRuntime) {
     let ends = "line 1, column 11: missing field `waits`\n{\"ends\":{}}\n          ^";
     let syntax = "line 1, column 10: expected value\n{\"waits\":}\n         ^";
-    let read: fn(Global, &str) -> Answer = |alloc, text| to_json(
-        alloc,
-        &from_json::<Lists>(alloc, text)?,
-    );
     assert_answers(
         &rt,
         &[
-            (read, "{\"ends\":{}}", ends),
-            (read, "{\"waits\":}", syntax),
+            (json_to_json, "{\"ends\":{}}", ends),
+            (json_to_json, "{\"waits\":}", syntax),
         ],
     );
+}
+
+#[test]
+fn lists_in_json(rt: HostRuntime) {
+    let text = r#"{"waits":[],"ends":{},"runs":["1970-01-01T00:00:01Z"],"limits":{"a":"2s"}}"#;
+    let written = "{\
+            \n  \"waits\": [],\
+            \n  \"ends\": {},\
+            \n  \"pauses\": [],\
+            \n  \"runs\": [\
+            \n    \"1970-01-01T00:00:01Z\"\
+            \n  ],\
+            \n  \"limits\": {\
+            \n    \"a\": \"2s\"\
+            \n  }\
+            \n}";
+    assert_answers(&rt, &[(json_to_json, text, written)]);
 }
 
 #[test]
