@@ -240,6 +240,10 @@ const WRONG: &[Row<'static>] = &[
         &["[server]\nletter = ^true", r#"{"server":{"letter":^true}}"#],
     ),
     (
+        "invalid length 0",
+        &["server.pair = ^[]", r#"{"server":{"pair":^[]}}"#],
+    ),
+    (
         "invalid length 1",
         &["server.pair = ^[1]", r#"{"server":{"pair":^[1]}}"#],
     ),

@@ -622,6 +622,7 @@ const OF_KEYS: &[Row<'static>] = &[
             "[[outers]]\n^part.name = 'a'\n[[outers]]\npart.every = '1s'\n",
             "[[outers]]\n^part.name = 'a'\n[[outers]]\n[outers.part]\nevery = '1s'\n",
             "outers = [{ part.every = '1s' }, { ^part.name = 'b', part.x = 1 }]",
+            "outers = [{ ^part.name = 'b' }]\npart = {}",
             "[[outers]]\npart.every = '1s'\n[[outers.inner]]\nevery = '1s'\n[[outers.inner]]\n\
             every = '2s'\n[[outers]]\npart.every = '1s'\n[[outers.inner]]\nevery = '3s'\n\
             ^[[outers.inner]]\nname = 'a'\n",

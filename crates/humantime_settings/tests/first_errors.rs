@@ -309,6 +309,11 @@ const VALUES_REJECTED_AFTER_READING: &[Row<'static>] = &[
         "invalid type: integer `70`, expected a string",
         &["{\n\"written\":\n^70\n}", "small = 1\nwritten = ^70\n"],
     ),
+    // This is the start of what is said of a duration.
+    (
+        "invalid character",
+        &[r#"{"silent":^"1~"}"#, "silent = ^'1~'"],
+    ),
     (
         "it is loud at line 7, or at line 8",
         &[r#"{"silent":^"loud"}"#, "silent = ^'loud'"],

@@ -12,6 +12,7 @@ struct Settings {
     wait: Option<Wait>,
     ratio: Option<f64>,
     small: Option<i8>,
+    deep: Option<Vec<Vec<Vec<i8>>>>,
     limit: Option<Limit>,
 }
 
@@ -262,6 +263,7 @@ const NO_TOML: &[Row<'static>] = &[
             "['']\n[^\"\"]\n",
             "[x]\nx = 1\n\n^x = 2",
             "a.b = 1\na.^b = 2\n]",
+            "[\ta . b]\n[\ta . ^b]",
         ],
     ),
     (
@@ -295,6 +297,7 @@ const ESCAPES: &[Row<'static>] = &[
             r#"{"wait":"1^\/^"}"#,
             r#"wait = '1^\^'"#,
             "wait = \"\"\"1\\\r\n\t \n^~^\"\"\"",
+            "wait = \"\"\"1\\\t\r\n^~^\"\"\"",
         ],
     ),
     (
@@ -316,7 +319,11 @@ const ESCAPES: &[Row<'static>] = &[
     ),
     (
         "number out of range",
-        &[r#"{"ratio":^1e400}"#, "{\n\n\"ratio\":\n\n  ^-1e400\n\n}\n"],
+        &[
+            r#"{"ratio":^1e400}"#,
+            r#"{"é":1,"ratio":^1e400}"#,
+            "{\n\n\"ratio\":\n\n  ^-1e400\n\n}\n",
+        ],
     ),
     (
         "invalid value: integer `128`, expected an integer in range",
@@ -325,6 +332,7 @@ const ESCAPES: &[Row<'static>] = &[
             "small = ^128",
             "small = ^0x80",
             "small = ^1_28",
+            "deep = [[[127]], [[], [1, ^128]]]",
         ],
     ),
     (
@@ -343,6 +351,7 @@ const ESCAPES: &[Row<'static>] = &[
             r#"{"a":[{},[],[[]],{"":{}}],"wait":"1^~^"}"#,
             "a = 1979-05-27 07:32:00\nwait = '1^~^'",
             "wait\t= '1^~^'",
+            "«a.*79»wait = 1\nwait = '1^~^'",
             "a = [1979-05-27 07:32:00, 1]\nwait = '1^~^'",
         ],
     ),

@@ -284,6 +284,7 @@ fn read_silent<F: Format>(
 ) -> Result<Silent, F::Error> {
     match from.string(alloc)?.as_str() {
         "" => Ok(Silent),
+        "1~" => Err(from.custom("invalid character")),
         "loud" => Err(from.custom("it is loud at line 7, or at line 8")),
         _ => Err(from.custom("")),
     }

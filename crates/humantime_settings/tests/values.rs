@@ -3,6 +3,7 @@
 use humantime::{Duration, StdDuration, SystemTime, Timestamp};
 use humantime_settings::{AsText, from_json, from_toml, to_json, to_toml};
 use serde::{Deserialize, DeserializeOwned, Serialize};
+use serde_trace::{Traced, Unexpected};
 use std::collections::BTreeMap;
 use std::fmt::Debug;
 use std::process::Abort;
@@ -245,6 +246,16 @@ fn values_that_are_not_texts_are_rejected(rt: HostRuntime) -> Result<(), Fail> {
             message
         );
     }
+    // A trace cuts nothing more.
+    let Traced(read) = serde_json::from_str::<Traced<Optional>>(
+        rt.alloc(),
+        r#"{"wait":"2 moons"}"#,
+    )?;
+    let rejection = read.err().ok_or("read")?;
+    assert_eq!(rt;
+        rejection.message(rt.alloc(), Unexpected::Null)?.as_str(),
+        "unknown time unit \"moons\", supported units: ns, us/µs, ms, sec, min, hours, ..."
+    );
     let error = serde_json::from_str::<Values>(rt.alloc(), r#"{"wait":null}"#)
         .err()
         .ok_or("read")?;
