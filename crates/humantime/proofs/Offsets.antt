@@ -3,7 +3,7 @@ use Rattle.humantime.specs.Characters.{begins, drop_while, take_while, is_letter
 use Rattle.humantime.specs.DurationErrors.{IsCharStartIn, may_follow_span}
 use Rattle.humantime.specs.PrivateFunctions.{after_one_whitespace, whitespace_len}
 use Rattle.humantime.specs.PrivateTypes.{IsTail}
-use Rattle.std.proofs.Common.{◌≡◌, ◌<◌, ◌≤◌, ◌+◌, ℕ, List, [], ◌∷◌, ◌++◌, length, get_or, drop, refl, ap, sym, ◌∙◌, arith, length-drop, IsUtf8, IsCharBoundary, chars, encode_utf8, encode_utf8_all, Bool, true, false, ◌≢◌, ◌-◌, take, length-append, length-take, ◌==◌, ◌&&◌, ◌||◌, nat_lt, ne_eqb, get_or-drop, take-append-drop, drop-drop}
+use Rattle.std.proofs.Common.{◌≡◌, ◌<◌, ◌≤◌, ◌+◌, ℕ, List, [], ◌∷◌, ◌++◌, length, get_or, drop, ap, sym, ◌∙◌, arith, length-drop, IsUtf8, IsCharBoundary, chars, encode_utf8, encode_utf8_all, Bool, true, false, ◌≢◌, ◌-◌, take, ◌==◌, ◌&&◌, ◌||◌, nat_lt, ne_eqb, get_or-drop, take-append-drop, drop-drop}
 use Rattle.std.proofs.lemmas.Bool.{cases_lt}
 use Rattle.std.proofs.lemmas.Bool.Decides.{nat_tests}
 use Rattle.std.proofs.lemmas.Grind.{common_steps}
