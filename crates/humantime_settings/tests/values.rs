@@ -247,10 +247,7 @@ fn values_that_are_not_texts_are_rejected(rt: HostRuntime) -> Result<(), Fail> {
         );
     }
     // A trace cuts nothing more.
-    let Traced(read) = serde_json::from_str::<Traced<Optional>>(
-        rt.alloc(),
-        r#"{"wait":"2 moons"}"#,
-    )?;
+    let Traced(read) = toml::from_str::<Traced<Optional>>(rt.alloc(), "wait = '2 moons'")?;
     let rejection = read.err().ok_or("read")?;
     assert_eq!(rt;
         rejection.message(rt.alloc(), Unexpected::Null)?.as_str(),
