@@ -33,60 +33,41 @@ fn small<'de, F: Format>(
 
 #[test]
 fn keys_of_a_struct(rt: HostRuntime) -> Result<(), Fail> {
+    // The second value of `max-tries` is read before its key is known to be there twice.
     assert_errors::<Server>(
         &rt,
-        &[
-            (
-                "unknown field `host_name`, expected `host-name` or `max-tries`",
-                &[
-                    "{ host-name: 'a ^host_name: 'b }",
-                    "{ ^host_name: [ { } ] host-name: 5 }",
-                ],
-            ),
-            (
-                "unknown field `is-up`, expected `host-name` or `max-tries`",
-                &["{ host-name: 'a ^is-up: true }"],
-            ),
-            (
-                "missing field `host-name`",
-                &["{ ^}", "{ max-tries: 1 ^}", "< tries: 1 ^>"],
-            ),
-            (
-                "duplicate field `host-name`",
-                &[
-                    "{ host-name: 'a ^host-name: 'b }",
-                    "{ label: 'a ^host-name: 5 }",
-                ],
-            ),
-            ("duplicate field `label`", &["< host-name: 'a ^label: 'b >"]),
-            // The second value is read before its key is known to be there twice.
-            (
-                "duplicate field `max-tries`",
-                &[
-                    "{ max-tries: 1 ^max-tries: 2 }",
-                    "{ max-tries: 1 ^max-tries: 10 }",
-                    "{ tries: 1 ^max-tries: [ 1 { } ] }",
-                ],
-            ),
-            (
-                "duplicate field `tries`",
-                &["{ max-tries: 1 host-name: 'a ^tries: 'b }"],
-            ),
-            (
-                "not below 10",
-                &["{ max-tries: ^10 max-tries: 1 }", "[ 'a ^10 ]"],
-            ),
-            (
-                "invalid type: integer `5`, expected a string",
-                &["{ host-name: ^5 tries: 10 }", "[ ^5 ]"],
-            ),
-            ("invalid type: integer `5`, expected a map", &["^5"]),
-        ],
+        "
+        unknown field `host_name`, expected `host-name` or `max-tries`
+            { host-name: 'a ^host_name: 'b }
+            { ^host_name: [ { } ] host-name: 5 }
+        unknown field `is-up`, expected `host-name` or `max-tries`
+            { host-name: 'a ^is-up: true }
+        missing field `host-name`
+            { ^}
+            { max-tries: 1 ^}
+            < tries: 1 ^>
+        duplicate field `host-name`
+            { host-name: 'a ^host-name: 'b }
+            { label: 'a ^host-name: 5 }
+        duplicate field `label`
+            < host-name: 'a ^label: 'b >
+        duplicate field `max-tries`
+            { max-tries: 1 ^max-tries: 2 }
+            { max-tries: 1 ^max-tries: 10 }
+            { tries: 1 ^max-tries: [ 1 { } ] }
+        duplicate field `tries`
+            { max-tries: 1 host-name: 'a ^tries: 'b }
+        not below 10
+            { max-tries: ^10 max-tries: 1 }
+            [ 'a ^10 ]
+        invalid type: integer `5`, expected a string
+            { host-name: ^5 tries: 10 }
+            [ ^5 ]
+        invalid type: integer `5`, expected a map
+            ^5
+        ",
     )?;
-    assert_errors::<Nothing>(
-        &rt,
-        &[("unknown field `a`, there are no fields", &["{ ^a: 1 }"])],
-    )
+    assert_errors::<Nothing>(&rt, "unknown field `a`, there are no fields\n{ ^a: 1 }")
 }
 
 #[derive(Drop, Deserialize)]
@@ -115,20 +96,14 @@ fn by_hand<'de, F: Format>(
 fn a_key_twice_around_a_key_twice(rt: HostRuntime) -> Result<(), Fail> {
     assert_errors::<Around>(
         &rt,
-        &[
-            (
-                "duplicate field `server`",
-                &[
-                    "{ server: { label: 'a } ^server: { label: 'b label: 'c } }",
-                    "{ server: { label: 'a } ^server: { x: 1 } }",
-                    "{ server: 5 ^server: { label: 'b label: 'c } }",
-                ],
-            ),
-            (
-                "duplicate field `label`",
-                &["{ server: { label: 'a ^label: 'b } server: 5 }"],
-            ),
-        ],
+        "
+        duplicate field `server`
+            { server: { label: 'a } ^server: { label: 'b label: 'c } }
+            { server: { label: 'a } ^server: { x: 1 } }
+            { server: 5 ^server: { label: 'b label: 'c } }
+        duplicate field `label`
+            { server: { label: 'a ^label: 'b } server: 5 }
+        ",
     )
 }
 
@@ -219,35 +194,23 @@ struct Ageless {
 fn one_name_in_several_cases(rt: HostRuntime) -> Result<(), Fail> {
     assert_errors::<Sides>(
         &rt,
-        &[
-            (
-                "missing field `maxAge`",
-                &[
-                    "{ LEFT: { max-age: 1 } RIGHT: { ^} }",
-                    "{ LEFT: { max-age: 1 } RIGHT: { max-age: 1 ^} OWN: 300 }",
-                    "{ RIGHT: { max_age: 1 ^} LEFT: { } }",
-                ],
-            ),
-            (
-                "missing field `max-age`",
-                &[
-                    "{ LEFT: { ^} RIGHT: { maxAge: 1 } }",
-                    "{ RIGHT: { maxAge: 1 } LEFT: { maxAge: 1 ^} }",
-                ],
-            ),
-            ("missing field `RIGHT`", &["{ LEFT: { max-age: 1 } ^}"]),
-            (
-                "missing field `LEFT`",
-                &["{ RIGHT: { maxAge: 1 } ^}", "{ right: 1 ^}"],
-            ),
-            (
-                "invalid value: integer `300`, expected an integer in range",
-                &[
-                    "{ OWN: ^300 }",
-                    "{ RIGHT: { maxAge: 1 } LEFT: { max-age: ^300 } }",
-                ],
-            ),
-        ],
+        "
+        missing field `maxAge`
+            { LEFT: { max-age: 1 } RIGHT: { ^} }
+            { LEFT: { max-age: 1 } RIGHT: { max-age: 1 ^} OWN: 300 }
+            { RIGHT: { max_age: 1 ^} LEFT: { } }
+        missing field `max-age`
+            { LEFT: { ^} RIGHT: { maxAge: 1 } }
+            { RIGHT: { maxAge: 1 } LEFT: { maxAge: 1 ^} }
+        missing field `RIGHT`
+            { LEFT: { max-age: 1 } ^}
+        missing field `LEFT`
+            { RIGHT: { maxAge: 1 } ^}
+            { right: 1 ^}
+        invalid value: integer `300`, expected an integer in range
+            { OWN: ^300 }
+            { RIGHT: { maxAge: 1 } LEFT: { max-age: ^300 } }
+        ",
     )?;
     Ok(())
 }
@@ -256,60 +219,56 @@ fn one_name_in_several_cases(rt: HostRuntime) -> Result<(), Fail> {
 fn one_name_in_a_shared_map(rt: HostRuntime) -> Result<(), Fail> {
     assert_errors::<Flat>(
         &rt,
-        &[
-            (
-                "missing field `max_age`",
-                &[
-                    "{ max-age: 1 maxAge: 2 wait: 'x ^}",
-                    "{ maxAge: 2 max-age: 1 wait: 'x other: [ 1 ] ^}",
-                ],
-            ),
-            (
-                "missing field `maxAge`",
-                &["{ max-age: 1 max_age: 2 wait: 'x ^}"],
-            ),
-            (
-                "missing field `max-age`",
-                &["{ maxAge: 1 max_age: 2 wait: 'x ^}", "{ wait: 'x ^}"],
-            ),
-            (
-                "invalid value: integer `300`, expected an integer in range",
-                &[
-                    "{ max-age: 1 maxAge: ^300 max_age: 2 wait: 'x }",
-                    "{ max-age: 1 max_age: ^300 maxAge: 2 wait: 'x }",
-                ],
-            ),
-            (
-                "duplicate field `maxAge`",
-                &["{ max-age: 1 maxAge: 2 wait: 'x ^maxAge: 3 }"],
-            ),
-            (
-                "invalid type: integer `5`, expected a string",
-                &["{ max-age: 1 maxAge: 300 wait: ^5 }"],
-            ),
-        ],
+        "
+        missing field `max_age`
+            { max-age: 1 maxAge: 2 wait: 'x ^}
+            { maxAge: 2 max-age: 1 wait: 'x other: [ 1 ] ^}
+        missing field `maxAge`
+            { max-age: 1 max_age: 2 wait: 'x ^}
+        missing field `max-age`
+            { maxAge: 1 max_age: 2 wait: 'x ^}
+            { wait: 'x ^}
+        invalid value: integer `300`, expected an integer in range
+            { max-age: 1 maxAge: ^300 max_age: 2 wait: 'x }
+            { max-age: 1 max_age: ^300 maxAge: 2 wait: 'x }
+        duplicate field `maxAge`
+            { max-age: 1 maxAge: 2 wait: 'x ^maxAge: 3 }
+        invalid type: integer `5`, expected a string
+            { max-age: 1 maxAge: 300 wait: ^5 }
+        ",
     )?;
     assert_errors::<Shared>(
         &rt,
-        &[("missing field `max-age`", &["{ ^}", "{ max-age: 1 ^}"])],
+        "
+        missing field `max-age`
+            { ^}
+            { max-age: 1 ^}
+        ",
     )?;
     assert_errors::<Late>(
         &rt,
-        &[("missing field `max-age`", &["{ ^}", "{ max_age: 1 ^}"])],
+        "
+        missing field `max-age`
+            { ^}
+            { max_age: 1 ^}
+        ",
     )?;
     assert_errors::<Beyond>(
         &rt,
-        &[(
-            "missing field `max_age`",
-            &["{ maxAge: 1 ^}", "{ maxAge: 1 x: 2 ^}"],
-        )],
+        "
+        missing field `max_age`
+            { maxAge: 1 ^}
+            { maxAge: 1 x: 2 ^}
+        ",
     )?;
     assert_errors::<Partly>(
         &rt,
-        &[(
-            "missing field `max_age`",
-            &["{ ^}", "{ tries: 1 ^}", "{ maxAge: 1 ^}"],
-        )],
+        "
+        missing field `max_age`
+            { ^}
+            { tries: 1 ^}
+            { maxAge: 1 ^}
+        ",
     )
 }
 
@@ -366,141 +325,95 @@ struct Jobs {
 fn variants(rt: HostRuntime) -> Result<(), Fail> {
     assert_errors::<Jobs>(
         &rt,
-        &[
-            (
-                "unknown variant `x`, expected `never` or `once`",
-                &[
-                    "{ job: ^'x }",
-                    "{ job: { ^x: 1 } }",
-                    "{ any: [ 'never { once: 1 } ( 1 2 ) ] job: ^'x }",
-                    "{ any: [ { once: 1 } ] job: { ^x: [ ] } }",
-                ],
-            ),
-            (
-                "unknown variant `hidden`, expected `never` or `once`",
-                &["{ job: ^'hidden }"],
-            ),
-            (
-                "invalid type: unit variant, expected a variant with data",
-                &["{ job: ^'once }"],
-            ),
-            (
-                "wanted exactly 1 element, found 0 elements",
-                &["{ job: { ^} }", "{ job: { 5 ^} }"],
-            ),
-            (
-                "wanted exactly 1 element, more than 1 element",
-                &["{ job: { once: 1 ^never: null } }"],
-            ),
-            (
-                "invalid type: integer `1`, expected unit",
-                &["{ job: { never: ^1 } }"],
-            ),
-            (
-                "invalid value: integer `300`, expected an integer in range",
-                &["{ job: { once: ^300 } }"],
-            ),
-            (
-                "invalid type: integer `1`, expected a map",
-                &["{ job: ^1 }"],
-            ),
-            (
-                "data did not match any variant of untagged enum",
-                &[
-                    "{ any: [ 1 ^300 'x ] }",
-                    "{ any: [ 1 ^'x ] }",
-                    "{ any: [ ( 1 2 ) ^[ 1 2 3 ] ] }",
-                    "{ any: [ { once: 1 } ^{ once: 300 } ] }",
-                ],
-            ),
-        ],
+        "
+        unknown variant `x`, expected `never` or `once`
+            { job: ^'x }
+            { job: { ^x: 1 } }
+            { any: [ 'never { once: 1 } ( 1 2 ) ] job: ^'x }
+            { any: [ { once: 1 } ] job: { ^x: [ ] } }
+        unknown variant `hidden`, expected `never` or `once`
+            { job: ^'hidden }
+        invalid type: unit variant, expected a variant with data
+            { job: ^'once }
+        wanted exactly 1 element, found 0 elements
+            { job: { ^} }
+            { job: { 5 ^} }
+        wanted exactly 1 element, more than 1 element
+            { job: { once: 1 ^never: null } }
+        invalid type: integer `1`, expected unit
+            { job: { never: ^1 } }
+        invalid value: integer `300`, expected an integer in range
+            { job: { once: ^300 } }
+        invalid type: integer `1`, expected a map
+            { job: ^1 }
+        data did not match any variant of untagged enum
+            { any: [ 1 ^300 'x ] }
+            { any: [ 1 ^'x ] }
+            { any: [ ( 1 2 ) ^[ 1 2 3 ] ] }
+            { any: [ { once: 1 } ^{ once: 300 } ] }
+        ",
     )?;
     assert_errors::<Later>(
         &rt,
-        &[
-            (
-                "unknown variant `x`, expected `Once`",
-                &["^'x", "{ ^x: 1 }"],
-            ),
-            ("wanted exactly 1 element, found 0 elements", &["{ ^}"]),
-        ],
+        "
+        unknown variant `x`, expected `Once`
+            ^'x
+            { ^x: 1 }
+        wanted exactly 1 element, found 0 elements
+            { ^}
+        ",
     )?;
     assert_errors::<Inside>(
         &rt,
-        &[
-            (
-                "unknown variant `x`, expected one of `Never`, `Once`, `Twice`",
-                &["{ kind: ^'x }", "{ tries: 'y kind: ^'x more: [ 1 ] }"],
-            ),
-            (
-                "invalid type: integer `1`, expected variant identifier",
-                &["{ kind: ^1 }"],
-            ),
-            ("missing field `kind`", &["{ tries: 1 ^}"]),
-            ("missing field `tries`", &["{ kind: 'Once ^}"]),
-            ("missing field `max-age`", &["{ kind: 'Twice max_age: 1 ^}"]),
-            (
-                "duplicate field `kind`",
-                &["{ kind: 'Never ^kind: 'Never }"],
-            ),
-            (
-                "duplicate field `tries`",
-                &[
-                    "{ kind: 'Once tries: 1 ^tries: 2 }",
-                    "{ tries: 1 ^tries: 2 kind: 'Once }",
-                ],
-            ),
-            (
-                "invalid value: integer `300`, expected an integer in range",
-                &[
-                    "{ kind: 'Once tries: ^300 }",
-                    "{ max-age: ^300 kind: 'Twice }",
-                ],
-            ),
-            (
-                "invalid type: string \"Never\", expected a map",
-                &["^'Never"],
-            ),
-        ],
+        "
+        unknown variant `x`, expected one of `Never`, `Once`, `Twice`
+            { kind: ^'x }
+            { tries: 'y kind: ^'x more: [ 1 ] }
+        invalid type: integer `1`, expected variant identifier
+            { kind: ^1 }
+        missing field `kind`
+            { tries: 1 ^}
+        missing field `tries`
+            { kind: 'Once ^}
+        missing field `max-age`
+            { kind: 'Twice max_age: 1 ^}
+        duplicate field `kind`
+            { kind: 'Never ^kind: 'Never }
+        duplicate field `tries`
+            { kind: 'Once tries: 1 ^tries: 2 }
+            { tries: 1 ^tries: 2 kind: 'Once }
+        invalid value: integer `300`, expected an integer in range
+            { kind: 'Once tries: ^300 }
+            { max-age: ^300 kind: 'Twice }
+        invalid type: string \"Never\", expected a map
+            ^'Never
+        ",
     )?;
     assert_errors::<Beside>(
         &rt,
-        &[
-            (
-                "unknown variant `x`, expected one of `Never`, `Once`, `Pair`, `Named`",
-                &[
-                    "{ kind: ^'x of: 1 }",
-                    "{ of: 1 kind: ^'x }",
-                    "{ more: [ ] kind: ^'x }",
-                ],
-            ),
-            (
-                "missing field `of`",
-                &[
-                    "{ kind: 'Once ^}",
-                    "{ kind: 'Pair ^}",
-                    "{ kind: 'Named more: [ 1 ] ^}",
-                ],
-            ),
-            ("missing field `kind`", &["{ of: 1 ^}"]),
-            ("duplicate field `of`", &["{ kind: 'Once of: 1 ^of: 2 }"]),
-            (
-                "duplicate field `kind`",
-                &["{ kind: 'Once of: 1 ^kind: 'Never }"],
-            ),
-            (
-                "invalid length 3, expected a tuple of size 2",
-                &[
-                    "{ kind: 'Pair of: ^[ 1 2 3 ] }",
-                    "{ of: ^[ 1 2 'x ] kind: 'Pair }",
-                ],
-            ),
-            ("invalid length 1", &["{ kind: 'Pair of: ^[ 1 ] }"]),
-            (
-                "missing field `tries`",
-                &["{ kind: 'Named of: { try: 1 ^} }"],
-            ),
-        ],
+        "
+        unknown variant `x`, expected one of `Never`, `Once`, `Pair`, `Named`
+            { kind: ^'x of: 1 }
+            { of: 1 kind: ^'x }
+            { more: [ ] kind: ^'x }
+        missing field `of`
+            { kind: 'Once ^}
+            { kind: 'Pair ^}
+            { kind: 'Named more: [ 1 ] ^}
+        missing field `kind`
+            { of: 1 ^}
+        duplicate field `of`
+            { kind: 'Once of: 1 ^of: 2 }
+        duplicate field `kind`
+            { kind: 'Once of: 1 ^kind: 'Never }
+        invalid length 3, expected a tuple of size 2
+            { kind: 'Pair of: ^[ 1 2 3 ] }
+            { of: ^[ 1 2 'x ] kind: 'Pair }
+        invalid length 1
+            { kind: 'Pair of: ^[ 1 ] }
+        missing field `tries`
+            { kind: 'Named of: { try: 1 ^} }
+        ",
     )
 }
 
@@ -536,24 +449,16 @@ struct Evens {
 fn a_value_of_another_type(rt: HostRuntime) -> Result<(), Fail> {
     assert_errors::<Evens>(
         &rt,
-        &[
-            (
-                "not even",
-                &[
-                    "{ one: ^{ n: 1 } }",
-                    "{ one: ^{ } }",
-                    "{ more: [ { n: 2 } ^{ n: 3 } { n: 5 } ] one: { n: 1 } }",
-                    "{ more: [ ^{ m: 2 } ] }",
-                ],
-            ),
-            (
-                "invalid type: string \"x\", expected an integer",
-                &["{ one: { n: ^'x } }"],
-            ),
-            (
-                "invalid type: boolean `true`, expected a sequence",
-                &["{ more: ^true }"],
-            ),
-        ],
+        "
+        not even
+            { one: ^{ n: 1 } }
+            { one: ^{ } }
+            { more: [ { n: 2 } ^{ n: 3 } { n: 5 } ] one: { n: 1 } }
+            { more: [ ^{ m: 2 } ] }
+        invalid type: string \"x\", expected an integer
+            { one: { n: ^'x } }
+        invalid type: boolean `true`, expected a sequence
+            { more: ^true }
+        ",
     )
 }

@@ -1,7 +1,7 @@
 //! Types that read by hand.
 
 use crate::attributes::Server;
-use crate::words::{Row, assert_errors, value};
+use crate::words::{assert_errors, value};
 use serde::{Case, Deserialize, DeserializeOwned, Deserializer, Format, Kind, Name, NameKind};
 use std::alloc::Global;
 use std::collections::BTreeMap;
@@ -36,14 +36,12 @@ fn assert_each<T: DeserializeOwned>(
     documents: &[&str],
 ) -> Result<(), Fail> {
     for document in documents {
-        assert_errors::<T>(rt, &[(message, &[*document])])?;
-        let [list, map] = ["[ # 'x ]", "{ a: # b: 5 }"].map(|around| around.replace(
-            rt.alloc(),
-            '#',
-            *document,
+        let [one, list, map] = ["#", "[ # 'x ]", "{ a: # b: 5 }"].map(|around| format!(
+            in rt.alloc(); "{message}\n{}", around.replace(rt.alloc(), '#', *document)?
         ));
-        assert_errors::<Vec<T>>(rt, &[(message, &[list?.as_str()])])?;
-        assert_errors::<BTreeMap<String, T>>(rt, &[(message, &[map?.as_str()])])?;
+        assert_errors::<T>(rt, &one?)?;
+        assert_errors::<Vec<T>>(rt, &list?)?;
+        assert_errors::<BTreeMap<String, T>>(rt, &map?)?;
     }
     Ok(())
 }
@@ -88,39 +86,33 @@ struct Modes {
 fn an_unknown_variant_of_a_string(rt: HostRuntime) -> Result<(), Fail> {
     assert_errors::<Modes>(
         &rt,
-        &[
-            (
-                "unknown variant `quick`",
-                &[
-                    "{ mode: ^'quick }",
-                    "{ either: { speed: 'Fast } mode: ^'quick }",
-                    "{ either: 7 mode: ^'quick }",
-                    "{ either: { other: 'x } mode: ^'quick }",
-                ],
-            ),
-            (
-                "invalid type: integer `5`, expected a string",
-                &["{ mode: ^5 }"],
-            ),
-        ],
+        "
+        unknown variant `quick`
+            { mode: ^'quick }
+            { either: { speed: 'Fast } mode: ^'quick }
+            { either: 7 mode: ^'quick }
+            { either: { other: 'x } mode: ^'quick }
+        invalid type: integer `5`, expected a string
+            { mode: ^5 }
+        ",
     )?;
     // The first variant of `Either` has an unknown name before `Rest` is read.
     assert_errors::<Modes>(
         &rt,
-        &[(
-            "unknown variant ``",
-            &[
-                "{ either: 7 level: ^9 }",
-                "{ either: { other: 'x } level: ^9 }",
-            ],
-        )],
+        "
+        unknown variant ``
+            { either: 7 level: ^9 }
+            { either: { other: 'x } level: ^9 }
+        ",
     )?;
     assert_errors::<Either>(
         &rt,
-        &[(
-            "data did not match any variant of untagged enum",
-            &["^'Slow", "^[ 'Slow ]", "^300"],
-        )],
+        "
+        data did not match any variant of untagged enum
+            ^'Slow
+            ^[ 'Slow ]
+            ^300
+        ",
     )
 }
 
@@ -159,23 +151,15 @@ struct One {
 fn an_unknown_key_of_an_entry(rt: HostRuntime) -> Result<(), Fail> {
     assert_errors::<Colors>(
         &rt,
-        &[
-            (
-                "unknown field `green`",
-                &[
-                    "{ one: { n: 2 } palette: { ^green: 1 } }",
-                    "{ one: { m: 2 } palette: { red: [ 1 ] ^green: 1 blue: 2 } }",
-                ],
-            ),
-            (
-                "unknown field `two`, expected `one` or `palette`",
-                &["{ palette: { red: 1 } ^two: { } }"],
-            ),
-            (
-                "invalid type: sequence, expected a map",
-                &["{ palette: ^[ 1 ] }"],
-            ),
-        ],
+        "
+        unknown field `green`
+            { one: { n: 2 } palette: { ^green: 1 } }
+            { one: { m: 2 } palette: { red: [ 1 ] ^green: 1 blue: 2 } }
+        unknown field `two`, expected `one` or `palette`
+            { palette: { red: 1 } ^two: { } }
+        invalid type: sequence, expected a map
+            { palette: ^[ 1 ] }
+        ",
     )?;
     assert_each::<Palette>(
         &rt,
@@ -224,20 +208,17 @@ fn a_look_before_an_error(rt: HostRuntime) -> Result<(), Fail> {
     assert_each::<Word>(&rt, "invalid value", &["^5", "^{ }", "^null"])?;
     assert_errors::<Looks>(
         &rt,
-        &[
-            ("no list", &["{ count: 1 no_list: ^[ 1 ] }"]),
-            (
-                "invalid value",
-                &[
-                    "{ count: 1 word: ^5 }",
-                    "{ word: ^[ 1 ] no_list: [ ] }",
-                    "{ word: ^? }",
-                    "{ no_list: ^? }",
-                ],
-            ),
-        ],
+        "
+        no list
+            { count: 1 no_list: ^[ 1 ] }
+        invalid value
+            { count: 1 word: ^5 }
+            { word: ^[ 1 ] no_list: [ ] }
+            { word: ^? }
+            { no_list: ^? }
+        ",
     )?;
-    assert_errors::<Option<Option<Word>>>(&rt, &[("invalid value", &["^5"])])
+    assert_errors::<Option<Option<Word>>>(&rt, "invalid value\n^5")
 }
 
 /// A string with an error of each kind.
@@ -264,10 +245,7 @@ fn an_error_of_a_string(rt: HostRuntime) -> Result<(), Fail> {
     assert_each::<Pair>(&rt, "invalid value", &["^'invalid"])?;
     assert_each::<Pair>(&rt, "no at line 7", &["^'custom"])?;
     assert_each::<Pair>(&rt, "invalid type: integer `5`, expected a string", &["^5"])?;
-    assert_errors::<BTreeMap<String, Pair>>(
-        &rt,
-        &[("duplicate field `b`", &["{ a: 'x ^b: 'duplicate }"])],
-    )
+    assert_errors::<BTreeMap<String, Pair>>(&rt, "duplicate field `b`\n{ a: 'x ^b: 'duplicate }")
 }
 
 #[derive(Drop, Deserialize)]
@@ -293,13 +271,7 @@ struct Pairs {
 
 #[test]
 fn a_name_that_another_entry_lacks(rt: HostRuntime) -> Result<(), Fail> {
-    assert_errors::<Pairs>(
-        &rt,
-        &[(
-            "missing field `a_b`",
-            &["{ optional: { } pair: ^'missing }"],
-        )],
-    )?;
+    assert_errors::<Pairs>(&rt, "missing field `a_b`\n{ optional: { } pair: ^'missing }")?;
     assert_each::<Down>(&rt, "missing field `is_up`", &["{ host-name: 'a ^}"])
 }
 
@@ -358,7 +330,7 @@ fn a_name_that_no_key_stands_for(rt: HostRuntime) -> Result<(), Fail> {
     assert_each::<Skipped>(&rt, "missing field `a_b`", &["{ ^}", "{ aB: 1 ^}"])?;
     let message = "unknown variant `x`, there are no variants";
     assert_each::<NoVariant>(&rt, message, &["^'x"])?;
-    assert_errors::<Vec<NoKey>>(&rt, &[("unknown field `x`", &["[ ^'x ]"])])
+    assert_errors::<Vec<NoKey>>(&rt, "unknown field `x`\n[ ^'x ]")
 }
 
 /// A sequence of which items are read ahead.
@@ -479,14 +451,8 @@ fn maps_that_are_read_ahead(rt: HostRuntime) -> Result<(), Fail> {
         ],
     )?;
     // Keys that stand for no name are not there twice.
-    assert_errors::<Keys>(
-        &rt,
-        &[("duplicate field `n`", &["{ c: { n: 1 } d: { n: 1 ^n: 2 } }"])],
-    )?;
-    assert_errors::<Vec<One>>(
-        &rt,
-        &[("duplicate field `n`", &["[ { n: 1 } { n: 1 ^n: 2 } ]"])],
-    )?;
+    assert_errors::<Keys>(&rt, "duplicate field `n`\n{ c: { n: 1 } d: { n: 1 ^n: 2 } }")?;
+    assert_errors::<Vec<One>>(&rt, "duplicate field `n`\n[ { n: 1 } { n: 1 ^n: 2 } ]")?;
     assert_each::<NoMap>(&rt, "no map", &["^{ b: 1 }", "^{ a: [ ] }", "^{ }"])?;
     assert_each::<Passed>(
         &rt,
@@ -517,14 +483,17 @@ fn strings_that_are_read_ahead(rt: HostRuntime) -> Result<(), Fail> {
     assert_each::<Letter>(&rt, "invalid value", &["^'x"])?;
     assert_errors::<BTreeMap<Letter, u8>>(
         &rt,
-        &[
-            (message, &["{ ^ab: 1 }", "{ a: 1 ^ab: 'x }"]),
-            ("invalid value", &["{ ^x: 1 }", "{ a: 1 b: 2 ^x: 3 }"]),
-            (
-                "invalid type: string \"x\", expected an integer",
-                &["{ a: ^'x }", "{ a: 1 b: ^'x }"],
-            ),
-        ],
+        "
+        invalid value: string \"ab\", expected a character
+            { ^ab: 1 }
+            { a: 1 ^ab: 'x }
+        invalid value
+            { ^x: 1 }
+            { a: 1 b: 2 ^x: 3 }
+        invalid type: string \"x\", expected an integer
+            { a: ^'x }
+            { a: 1 b: ^'x }
+        ",
     )
 }
 
@@ -552,12 +521,12 @@ by_hand!(BeforeKeys, _alloc, from, {
 
 #[test]
 fn a_map_that_is_rejected_as_a_key(rt: HostRuntime) -> Result<(), Fail> {
-    let rows: &[Row<'_>] = &[("unknown field ``", &["^{ m: 1 }"])];
-    assert_errors::<AfterKeys>(&rt, rows)?;
-    assert_errors::<BeforeKeys>(&rt, rows)?;
-    let rows: &[Row<'_>] = &[("unknown field ``", &["[ ^{ m: 1 } ]"])];
-    assert_errors::<Vec<AfterKeys>>(&rt, rows)?;
-    assert_errors::<Vec<BeforeKeys>>(&rt, rows)
+    let table = "unknown field ``\n^{ m: 1 }";
+    assert_errors::<AfterKeys>(&rt, table)?;
+    assert_errors::<BeforeKeys>(&rt, table)?;
+    let table = "unknown field ``\n[ ^{ m: 1 } ]";
+    assert_errors::<Vec<AfterKeys>>(&rt, table)?;
+    assert_errors::<Vec<BeforeKeys>>(&rt, table)
 }
 
 /// An item that begins, but is not read.
@@ -641,18 +610,12 @@ fn keys_that_may_come_twice(rt: HostRuntime) -> Result<(), Fail> {
     let _last: LastWins = value(&rt, "{ a: { n: 1 } b: 1 a: { n: 2 } b: 'x b: [ ] a: { } }")?;
     assert_errors::<LastWins>(
         &rt,
-        &[
-            (
-                "invalid value: integer `300`, expected an integer in range",
-                &[
-                    "{ a: { n: 1 } a: { n: ^300 } }",
-                    "{ b: [ ] a: { } c: 1 a: { n: ^300 } b: 1 }",
-                ],
-            ),
-            (
-                "duplicate field `n`",
-                &["{ b: 1 b: 2 a: { n: 1 ^n: 2 } a: 5 }"],
-            ),
-        ],
+        "
+        invalid value: integer `300`, expected an integer in range
+            { a: { n: 1 } a: { n: ^300 } }
+            { b: [ ] a: { } c: 1 a: { n: ^300 } b: 1 }
+        duplicate field `n`
+            { b: 1 b: 2 a: { n: 1 ^n: 2 } a: 5 }
+        ",
     )
 }

@@ -37,8 +37,7 @@ fn each_step_reads(rt: HostRuntime) -> Result<(), Fail> {
     assert_eq!(rt; all.rest.get("y").map(|list| list.len()), Some(0));
     let message = "invalid type: map, expected ";
     let rejected = |expected: &str, document: &str| {
-        let message = format!(in rt.alloc(); "{message}{expected}")?;
-        assert_errors::<All>(&rt, &[(message.as_str(), &[document])])
+        assert_errors::<All>(&rt, &format!(in rt.alloc(); "{message}{expected}\n{document}")?)
     };
     rejected("a boolean", "{ bool: ^{ } }")?;
     rejected("an integer", "{ small: ^{ } }")?;
@@ -52,28 +51,20 @@ fn each_step_reads(rt: HostRuntime) -> Result<(), Fail> {
     rejected("a sequence", "{ long: ^{ } }")?;
     assert_errors::<All>(
         &rt,
-        &[
-            (
-                "invalid value: string \"ab\", expected a character",
-                &["{ char: ^'ab }"],
-            ),
-            (
-                "invalid value: integer `-129`, expected an integer in range",
-                &["{ small: ^-129 }"],
-            ),
-            (
-                "invalid value: integer `-1`, expected an integer in range",
-                &["{ rest: { x: [ 1 ^-1 ] } }", "{ long: [ 1 ^-1 ] }"],
-            ),
-            (
-                "invalid type: null, expected a map",
-                &["{ rest: ^null }", "^null"],
-            ),
-            (
-                "invalid type: floating point `1.5`, expected an integer",
-                &["{ rest: { a: [ ] b: [ ^1.5 ] } }"],
-            ),
-        ],
+        "
+        invalid value: string \"ab\", expected a character
+            { char: ^'ab }
+        invalid value: integer `-129`, expected an integer in range
+            { small: ^-129 }
+        invalid value: integer `-1`, expected an integer in range
+            { rest: { x: [ 1 ^-1 ] } }
+            { long: [ 1 ^-1 ] }
+        invalid type: null, expected a map
+            { rest: ^null }
+            ^null
+        invalid type: floating point `1.5`, expected an integer
+            { rest: { a: [ ] b: [ ^1.5 ] } }
+        ",
     )
 }
 
@@ -83,29 +74,23 @@ fn keys_of_a_map(rt: HostRuntime) -> Result<(), Fail> {
     assert_eq!(rt; value::<Numbers>(&rt, "{ a: { b: 7 } }")?.len(), 1);
     assert_errors::<Numbers>(
         &rt,
-        &[
-            (
-                "invalid value: string \"ab\", expected a character",
-                &["{ ^ab: { } }", "{ a: { b: 1 ^ab: 'x } }"],
-            ),
-            (
-                "invalid value: integer `128`, expected an integer in range",
-                &["{ a: { b: 1 } c: { d: ^128 } }"],
-            ),
-        ],
+        "
+        invalid value: string \"ab\", expected a character
+            { ^ab: { } }
+            { a: { b: 1 ^ab: 'x } }
+        invalid value: integer `128`, expected an integer in range
+            { a: { b: 1 } c: { d: ^128 } }
+        ",
     )?;
     assert_errors::<BTreeMap<Mark, u8>>(
         &rt,
-        &[
-            (
-                "data did not match any variant of untagged enum",
-                &["{ ^ab: 1 }", "{ a: 1 b: 2 ^cd: 3 }"],
-            ),
-            (
-                "invalid type: string \"x\", expected an integer",
-                &["{ a: 1 b: ^'x }"],
-            ),
-        ],
+        "
+        data did not match any variant of untagged enum
+            { ^ab: 1 }
+            { a: 1 b: 2 ^cd: 3 }
+        invalid type: string \"x\", expected an integer
+            { a: 1 b: ^'x }
+        ",
     )
 }
 
@@ -134,38 +119,35 @@ fn tuples_and_structs_of_the_format(rt: HostRuntime) -> Result<(), Fail> {
     assert_eq!(rt; (named.one, named.two), (1, None));
     assert_errors::<Vec<Named>>(
         &rt,
-        &[
-            (
-                "invalid length 3, expected a tuple of size 2",
-                &[
-                    "[ { one: 1 two: ^( 2 3 4 ) } ]",
-                    "[ < one: 1 > < two: ^[ 2 3 4 ] > ]",
-                    "[ [ 1 null ] ^[ 1 null { } ] ]",
-                ],
-            ),
-            (
-                "invalid value: integer `256`, expected an integer in range",
-                &["[ { one: ^256 } ]", "[ < one: 1 two: [ 255 ^256 ] > ]"],
-            ),
-            ("invalid length 1", &["[ < two: ^[ 2 ] > ]"]),
-            ("invalid length 0", &["[ < two: ^[ ] > ]"]),
-            (
-                "missing field `one`",
-                &["[ < ^> ]", "[ { one: 1 } { two: ( 2 3 ) ^} ]"],
-            ),
-            ("missing field `two`", &["[ [ 1 ^] ]"]),
-            (
-                "invalid type: integer `5`, expected a map",
-                &["[ { one: 1 } ^5 ]"],
-            ),
-        ],
+        "
+        invalid length 3, expected a tuple of size 2
+            [ { one: 1 two: ^( 2 3 4 ) } ]
+            [ < one: 1 > < two: ^[ 2 3 4 ] > ]
+            [ [ 1 null ] ^[ 1 null { } ] ]
+        invalid value: integer `256`, expected an integer in range
+            [ { one: ^256 } ]
+            [ < one: 1 two: [ 255 ^256 ] > ]
+        invalid length 1
+            [ < two: ^[ 2 ] > ]
+        invalid length 0
+            [ < two: ^[ ] > ]
+        missing field `one`
+            [ < ^> ]
+            [ { one: 1 } { two: ( 2 3 ) ^} ]
+        missing field `two`
+            [ [ 1 ^] ]
+        invalid type: integer `5`, expected a map
+            [ { one: 1 } ^5 ]
+        ",
     )?;
     assert_errors::<BTreeMap<String, [u8; 2]>>(
         &rt,
-        &[
-            ("invalid length 3", &["{ a: [ 1 2 ] b: ^[ 1 2 3 ] }"]),
-            ("invalid length 1", &["{ b: ^[ 1 ] }"]),
-        ],
+        "
+        invalid length 3
+            { a: [ 1 2 ] b: ^[ 1 2 3 ] }
+        invalid length 1
+            { b: ^[ 1 ] }
+        ",
     )
 }
 
@@ -198,10 +180,11 @@ fn items_that_are_rejected(rt: HostRuntime) -> Result<(), Fail> {
     assert!(rt; pairs.get("b").is_some_and(|Traced(list)| list.is_ok()));
     assert_errors::<Vec<u8>>(
         &rt,
-        &[(
-            "invalid type: boolean `true`, expected an integer",
-            &["row 1 2 ^true 3", "row ^true"],
-        )],
+        "
+        invalid type: boolean `true`, expected an integer
+            row 1 2 ^true 3
+            row ^true
+        ",
     )
 }
 

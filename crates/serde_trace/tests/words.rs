@@ -336,34 +336,36 @@ fn found_at<'t>(words: &[&'t str], at: usize) -> Unexpected<'t> {
     }
 }
 
-/// A message, and documents with this error at the word after a `^`.
-pub(crate) type Row<'a> = (&'a str, &'a [&'a str]);
-
-/// Asserts that each document is rejected where it is marked and with its message, and is read to
-/// its end. Names each that is not.
+/// Asserts that each document of a table is rejected, and is read to its end. It has a `^` before
+/// the word of its error, and is below its message. Names each that differs.
 pub(crate) fn assert_errors<T: DeserializeOwned>(
     rt: &(impl Abort + AllocGlobal),
-    rows: &[Row<'_>],
+    table: &str,
 ) -> Result<(), Fail> {
     let alloc = rt.alloc();
-    let mut differ = String::new(alloc);
-    for (message, documents) in rows {
-        for document in *documents {
-            let plain = document.replace(alloc, '^', "")?;
-            let words = words_of(alloc, &plain)?;
-            let marked = document.split(' ').position(|word| word.starts_with('^'));
-            match read::<T>(alloc, &words)? {
-                (Ok(_), _) => write!(differ, "\n{document}: read")?,
-                (Err(rejection), end) => {
-                    let at = place_of(&words, &rejection);
-                    let said = rejection.message(alloc, found_at(&words, at))?;
-                    if (Some(at), said.as_str(), end) != (marked, *message, words.len()) {
-                        write!(differ, "\n{document}: word {at}: {said}, {end} words read")?;
-                    }
+    let (mut differ, mut message, mut is_asked) = (String::new(alloc), "", true);
+    for line in table.trim().lines() {
+        let document = line.trim();
+        let Some(marked) = document.split(' ').position(|word| word.starts_with('^')) else {
+            assert!(rt; is_asked, "no document has this error: {message}");
+            (message, is_asked) = (document, false);
+            continue;
+        };
+        is_asked = true;
+        let plain = document.replace(alloc, '^', "")?;
+        let words = words_of(alloc, &plain)?;
+        match read::<T>(alloc, &words)? {
+            (Ok(_), _) => write!(differ, "\n{document}: read")?,
+            (Err(rejection), end) => {
+                let at = place_of(&words, &rejection);
+                let said = rejection.message(alloc, found_at(&words, at))?;
+                if (at, said.as_str(), end) != (marked, message, words.len()) {
+                    write!(differ, "\n{document}: word {at}: {said}, {end} words read")?;
                 }
             }
         }
     }
+    assert!(rt; is_asked, "no document has this error: {message}");
     assert_eq!(rt; differ.as_str(), "");
     Ok(())
 }
