@@ -30,16 +30,15 @@ pub(crate) fn rejection_error(
     found: Unexpected<'_>,
 ) -> Result<Located<String>, AllocError> {
     let message = rejection.message(alloc, found)?;
-    let Unexpected::Str(text) = found else {
-        return message_at(alloc, at, &message);
-    };
-    let duration = whole_error(alloc, &message, parse_duration(text).err())?;
-    let timestamp = whole_error(alloc, &message, parse_rfc3339_weak(text).err())?;
-    let Some(Located { error, start, end }) = duration.or(timestamp) else {
-        return message_at(alloc, at, &message);
-    };
-    let (start, end) = raw_range(tail(document, at), text, start, end);
-    Ok(Located { error, start, end }.after(at))
+    if let Unexpected::Str(text) = found {
+        let duration = whole_error(alloc, &message, parse_duration(text).err())?;
+        let timestamp = whole_error(alloc, &message, parse_rfc3339_weak(text).err())?;
+        if let Some(Located { error, start, end }) = duration.or(timestamp) {
+            let (start, end) = raw_range(tail(document, at), text, start, end);
+            return Ok(Located { error, start, end }.after(at));
+        }
+    }
+    message_at(alloc, at, &message)
 }
 
 /// Returns the error of a string, if `said` is its message.

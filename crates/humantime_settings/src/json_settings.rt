@@ -13,7 +13,6 @@ use crate::json_positions::found_at;
 use crate::json_syntax::syntax_error;
 use crate::text::offset_of;
 use humantime_std::located::Located;
-use json::Scratch;
 use serde::{Deserialize, DeserializeOwned, Deserializer, Format, Serialize};
 use serde_trace::Traced;
 use std::alloc::{AllocError, Global};
@@ -60,7 +59,7 @@ pub fn from_json<T: DeserializeOwned>(alloc: Global, text: &str) -> Result<T, Se
     };
     let error = match serde_json::from_str::<Owned<Traced<T>>>(alloc, text) {
         Ok(Owned(Traced(Err(rejection)))) => {
-            let mut scratch = Scratch::new(alloc);
+            let mut scratch = json::Scratch::new(alloc);
             let (at, found) = found_at(text, &rejection, &mut scratch)?;
             rejection_error(alloc, text, at, &rejection, found)?
         }

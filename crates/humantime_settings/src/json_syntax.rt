@@ -155,11 +155,9 @@ fn after_number(number: &str) -> Result<&str, Stop> {
 /// Returns the document after the digits at the front, of which there is at least one.
 fn after_digits(digits: &str) -> Result<&str, Stop> {
     let rest = digits.trim_start_matches(|c: char| c.is_ascii_digit());
-    if rest.len() < digits.len() {
-        Ok(rest)
-    } else {
-        Err((digits.len(), "invalid number"))
-    }
+    (rest.len() < digits.len())
+        .then_some(rest)
+        .ok_or((digits.len(), "invalid number"))
 }
 
 /// Returns the document after the word at the front.

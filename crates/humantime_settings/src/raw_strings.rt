@@ -46,12 +46,11 @@ fn after<'a>(content: &'a str, text: &str, len: usize) -> &'a str {
 fn after_folds(content: &str) -> &str {
     let mut rest = content;
     for _ in 0..content.len() {
-        match rest.strip_prefix('\\') {
-            Some(blank) if blank.starts_with([' ', '\t', '\r', '\n']) => {
-                rest = skip_blank(blank, false);
-            }
-            _ => break,
+        let blank = rest.strip_prefix('\\').unwrap_or("");
+        if !blank.starts_with([' ', '\t', '\r', '\n']) {
+            break;
         }
+        rest = skip_blank(blank, false);
     }
     rest
 }

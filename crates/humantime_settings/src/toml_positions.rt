@@ -2,7 +2,6 @@
 
 use crate::text::{offset_of, tail};
 use std::alloc::{AllocError, Global};
-use toml::Value;
 use toml_parser::text::{first, skip_blank, skip_ws};
 use toml_parser::{RECURSION_LIMIT, quoted, starts_string};
 
@@ -121,13 +120,13 @@ impl<'a> Walk<'a> {
                 Some([Step::Key(key), later @ ..]) if *key == name.as_str() => Some(later),
                 _ => None,
             };
-            if first(rest) != b'.' {
+            let Some(rest) = rest.strip_prefix('.') else {
                 break;
-            }
+            };
             if let Some([]) = left {
                 self.implied = self.implied.or(Some(part));
             }
-            part = skip_ws(tail(rest, 1));
+            part = skip_ws(rest);
         }
         Ok((left, part))
     }
@@ -147,18 +146,21 @@ impl<'a> Walk<'a> {
 pub(crate) fn wrong_part(alloc: Global, document: &str, at: usize) -> Result<usize, AllocError> {
     // No key of the document is as long.
     let fresh = "x".repeat(alloc, document.len())?;
-    let mut parts = parts_at(alloc, document, at)?;
-    let mut wrong = parts.pop().unwrap_or(at);
-    for part in parts.iter().rev() {
-        let front = document.get(..wrong).unwrap_or("");
-        let rest = name_at(alloc, tail(document, wrong))?.1;
+    let parts = parts_at(alloc, document, at)?;
+    let mut parts = parts.as_slice();
+    for _ in 0..RECURSION_LIMIT {
+        let (first @ [_, ..], last @ [part, ..]) = parts.split_at(parts.len() / 2) else {
+            break;
+        };
+        let front = document.get(..*part).unwrap_or("");
+        let rest = name_at(alloc, tail(document, *part))?.1;
         let text = format!(in alloc; "{front}{fresh}{rest}")?;
-        match toml::table_from_str(alloc, &text) {
-            Err(error) if error.span().ok_or(AllocError)?.start == at => wrong = *part,
-            _ => break,
-        }
+        parts = match toml::table_from_str(alloc, &text) {
+            Err(error) if error.span().ok_or(AllocError)?.start == at => first,
+            _ => last,
+        };
     }
-    Ok(wrong)
+    Ok(*parts.first().unwrap_or(&at))
 }
 
 /// Returns the offset of each part of the key or the header at an offset.
@@ -167,11 +169,10 @@ fn parts_at(alloc: Global, document: &str, at: usize) -> Result<Vec<usize>, Allo
     let mut part = tail(document, at).trim_start_matches(['[', ' ', '\t']);
     for _ in 0..RECURSION_LIMIT {
         parts.push(offset_of(document, part))?;
-        let rest = name_at(alloc, part)?.1;
-        if first(rest) != b'.' {
+        let Some(rest) = name_at(alloc, part)?.1.strip_prefix('.') else {
             break;
-        }
-        part = skip_ws(tail(rest, 1));
+        };
+        part = skip_ws(rest);
     }
     Ok(parts)
 }
@@ -204,7 +205,7 @@ fn next_item(rest: &str) -> &str {
 
 /// Returns the document after the value at the front, where `toml` finds more than a value.
 fn after_value(alloc: Global, value: &str) -> Result<&str, AllocError> {
-    match Value::from_str(alloc, value) {
+    match toml::Value::from_str(alloc, value) {
         Ok(_) => Ok(""),
         Err(error) => Ok(tail(value, error.span().ok_or(AllocError)?.start)),
     }

@@ -105,8 +105,8 @@ fn toml_error(alloc: Global, text: &str, error: Error) -> Result<Located<String>
     {
         // After one space `toml` expects a time, and not after two.
         let space = start.saturating_add(first.len());
-        let (front, rest) = (text.get(..space).unwrap_or(""), tail(text, space));
-        let apart = format!(in alloc; "{front} {rest}")?;
+        let front = text.get(..space).unwrap_or("");
+        let apart = format!(in alloc; "{front} {}", tail(text, space))?;
         let error = toml::table_from_str(alloc, &apart).err().ok_or(AllocError)?;
         let start = error.span().ok_or(AllocError)?.start;
         let at = start.saturating_sub(usize::from(start > space));

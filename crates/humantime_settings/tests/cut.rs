@@ -75,8 +75,9 @@ fn values_are_wrong_in_cut_documents(rt: HostRuntime) -> Result<(), Fail> {
     Ok(())
 }
 
-/// Keys of 71 parts that are there twice. One has 128 KB, and is found in a time that is linear: a
-/// test that is not done in a minute fails.
+/// Keys of 71 parts that are there twice, or extend a value. Two have 128 KB, and the wrong part is
+/// the last or the first of 71: each is found in a time that is linear, or the test does not end in
+/// a minute.
 #[test]
 fn long_keys_twice(rt: HostRuntime) -> Result<(), Fail> {
     let long = "p".repeat(rt.alloc(), 1800)?;
@@ -102,6 +103,7 @@ fn long_keys_twice(rt: HostRuntime) -> Result<(), Fail> {
                 &[
                     "«PART#.*35»x = 1\n«PART#.*35»^x.«PART#.*34»y = 1\n",
                     "[«PART#.*35»z]\nx = 1\n[«PART#.*35»z.^x.«PART#.*33»y]\n",
+                    "LONG0 = 1\n^«LONG#.*70»x = 1\n",
                 ],
             ),
         ],
