@@ -12,7 +12,7 @@ use std::test::Fail;
 
 const TIMES: usize = 20_000;
 
-const ITEMS: usize = 12_000;
+const ITEMS: usize = 8_000;
 
 #[derive(Drop, Deserialize)]
 #[serde(untagged)]
