@@ -57,13 +57,18 @@ pub fn from_json<T: DeserializeOwned>(alloc: Global, text: &str) -> Result<T, Se
         Ok(Owned(value)) => return Ok(value),
         Err(error) => error,
     };
-    let error = match serde_json::from_str::<Owned<Traced<T>>>(alloc, text) {
+    let traced = if refused.is_eof() {
+        Err(refused)
+    } else {
+        serde_json::from_str::<Owned<Traced<T>>>(alloc, text)
+    };
+    let error = match traced {
         Ok(Owned(Traced(Err(rejection)))) => {
             let mut scratch = json::Scratch::new(alloc);
             let (at, found) = found_at(text, &rejection, &mut scratch)?;
             rejection_error(alloc, text, at, &rejection, found)?
         }
-        read => json_error(alloc, text, &read.err().unwrap_or(refused))?,
+        read => json_error(alloc, text, read.err().unwrap_or(refused))?,
     };
     Err(settings_error(alloc, text, error)?)
 }
@@ -110,11 +115,11 @@ pub fn to_json<T: Serialize>(alloc: Global, value: &T) -> Result<String, Setting
     }
 }
 
-/// Returns the error of a document that is not JSON, or has a number that is out of range.
+/// Returns the error of a document that is not JSON, or has a number out of range.
 fn json_error(
     alloc: Global,
     text: &str,
-    error: &serde_json::Error,
+    error: serde_json::Error,
 ) -> Result<Located<String>, AllocError> {
     if error.is_memory() {
         return Err(AllocError);

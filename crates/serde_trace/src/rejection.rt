@@ -39,9 +39,9 @@ impl Rejection {
             }
             Cause::Expected(kind, expected) => {
                 let (what, more) = match kind {
-                    Kind::Signed if found.is(*kind) => ("value", " in range"),
-                    kind if found.is(*kind) => ("value", ""),
-                    _ => ("type", ""),
+                    _ if !found.is(*kind) => ("type", ""),
+                    Kind::Signed => ("value", " in range"),
+                    _ => ("value", ""),
                 };
                 format!(in alloc; "invalid {what}: {found}, expected {expected}{more}")
             }

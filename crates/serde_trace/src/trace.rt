@@ -24,7 +24,7 @@ impl<T: DeserializeOwned> DeserializeOwned for Traced<T> {
         if read.is_err() {
             from.rewind(start);
         }
-        // Nothing is read again after this, so the other format need not keep it.
+        // Nothing is read again, so the other format need not keep it.
         from.release(start);
         if read.is_err() {
             from.skip()?;
@@ -58,7 +58,7 @@ struct Trace<'a, 'de, 's, F: Format> {
 }
 
 impl<F: Format> Trace<'_, '_, '_, F> {
-    /// Reads a value, and returns it, or what is wrong with it, or the error of the other format.
+    /// Reads a value. Returns it, what is wrong with it, or the error of the other format.
     fn value<T: DeserializeOwned>(mut self) -> Result<Result<T, Rejection>, F::Error> {
         let read = T::deserialize_owned(self.steps.alloc, &mut Deserializer::new(&[], &mut self));
         let why = match read {
@@ -275,7 +275,7 @@ impl<F: Format> Format for Trace<'_, '_, '_, F> {
     }
 
     fn no_memory(&self) -> Self::Error {
-        Stop::Own(Err(AllocError))
+        AllocError.into()
     }
 
     fn custom(&self, message: &str) -> Self::Error {
@@ -298,7 +298,7 @@ struct Steps {
     last: Last,
     /// What is expected in place of the last key, if it is unknown.
     expected: String,
-    /// What is wrong with the last variant that is unknown, until a value but a map is read.
+    /// What is wrong with the last unknown variant, until a value but a map is read.
     variant: Option<Rejection>,
 }
 
@@ -519,7 +519,7 @@ impl Steps {
         String::from_str(self.alloc, text)
     }
 
-    /// Rejects what the last step has read, or the first key that is there twice.
+    /// Rejects what the last step has read, or the first duplicate key.
     fn rejection(&self, part: Part, cause: Cause) -> Rejected {
         let mut path = Vec::new(self.alloc);
         for level in self.levels.iter().take(self.depth) {
