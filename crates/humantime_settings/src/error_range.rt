@@ -1,4 +1,4 @@
-//! What `humantime` says of a value that is not a duration or a timestamp.
+//! What `humantime` says of a value that is not a duration or timestamp.
 
 use crate::raw_strings::raw_range;
 use crate::text::tail;
@@ -7,8 +7,7 @@ use serde_trace::{Rejection, Unexpected};
 use std::alloc::{AllocError, Global};
 use std::fmt::{Display, InlineText};
 
-/// A message as a field gives it to a format: its first 80 bytes, which end in dots if it is
-/// longer.
+/// A message as a field gives it to a format: its first 80 bytes, with dots if it is longer.
 pub(crate) type Message = InlineText<80>;
 
 /// Creates an error whose end is not known.
@@ -31,9 +30,11 @@ pub(crate) fn rejection_error(
 ) -> Result<Located<String>, AllocError> {
     let message = rejection.message(alloc, found)?;
     if let Unexpected::Str(text) = found {
-        let duration = whole_error(alloc, &message, parse_duration(text).err())?;
-        let timestamp = whole_error(alloc, &message, parse_rfc3339_weak(text).err())?;
-        if let Some(Located { error, start, end }) = duration.or(timestamp) {
+        let mut whole = whole_error(alloc, &message, parse_duration(text).err())?;
+        if whole.is_none() {
+            whole = whole_error(alloc, &message, parse_rfc3339_weak(text).err())?;
+        }
+        if let Some(Located { error, start, end }) = whole {
             let (start, end) = raw_range(tail(document, at), text, start, end);
             return Ok(Located { error, start, end }.after(at));
         }

@@ -57,7 +57,7 @@ pub fn from_json<T: DeserializeOwned>(alloc: Global, text: &str) -> Result<T, Se
         Ok(Owned(value)) => return Ok(value),
         Err(error) => error,
     };
-    let traced = if refused.is_eof() {
+    let traced = if !refused.is_data() && syntax_error(text).is_some() {
         Err(refused)
     } else {
         serde_json::from_str::<Owned<Traced<T>>>(alloc, text)
@@ -121,14 +121,12 @@ fn json_error(
     text: &str,
     error: serde_json::Error,
 ) -> Result<Located<String>, AllocError> {
-    if error.is_memory() {
-        return Err(AllocError);
-    }
     if let Some((at, message)) = syntax_error(text) {
         return message_at(alloc, at, message);
     }
     let said = error.to_string(alloc)?;
-    let message = said.rsplit_once(" at line ").map_or("", |parts| parts.0);
+    // An error of memory has no line.
+    let (message, _) = said.rsplit_once(" at line ").ok_or(AllocError)?;
     let line = text.splitn(error.line(), '\n').last().unwrap_or("");
     let at = offset_of(text, line).saturating_add(error.column().saturating_sub(1));
     message_at(alloc, at, message)

@@ -31,11 +31,11 @@
 //! }
 //!
 //! fn main(rt: HostRuntime) -> Result<(), Fail> {
-//!     let text = r#"{"timeout": "90s", "retries": [], "since": "2024-01-02"}"#;
+//!     let text = r#"{"since": "2024-01-02"}"#;
 //!     let error = from_json::<Settings>(rt.alloc(), text).err().ok_or("read")?;
-//!     let wanted = r#"line 1, column 55: timestamp format is invalid
-//! {"timeout": "90s", "retries": [], "since": "2024-01-02"}
-//!                                                       ^"#;
+//!     let wanted = r#"line 1, column 22: timestamp format is invalid
+//! {"since": "2024-01-02"}
+//!                      ^"#;
 //!     assert_eq!(rt; error.to_string(rt.alloc())?.as_str(), wanted);
 //!
 //!     let text = r#"{"timeout": "90s", "retries": ["500ms"]}"#;

@@ -7,14 +7,11 @@ use toml_parser::text::skip_blank;
 /// string.
 pub(crate) fn raw_range(document: &str, text: &str, start: usize, end: usize) -> (usize, usize) {
     let content = content_of(document);
-    let (first, last) = if document.starts_with('\'') {
-        (tail(content, start), tail(content, end))
-    } else {
-        (
-            after_folds(after(content, text, start)),
-            after(content, text, end),
-        )
-    };
+    let (mut first, mut last) = (tail(content, start), tail(content, end));
+    if !document.starts_with('\'') {
+        first = after_folds(after(content, text, start));
+        last = after(content, text, end);
+    }
     let first = offset_of(document, first);
     (first, offset_of(document, last).max(first))
 }

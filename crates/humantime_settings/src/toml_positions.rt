@@ -3,7 +3,7 @@
 use crate::text::{offset_of, tail};
 use std::alloc::{AllocError, Global};
 use toml_parser::text::{first, skip_blank, skip_ws};
-use toml_parser::{RECURSION_LIMIT, quoted, starts_string};
+use toml_parser::{RECURSION_LIMIT, quoted, starts_string, unquoted};
 
 /// A step from a table or an array to a value in it.
 #[derive(Clone, Copy)]
@@ -12,7 +12,7 @@ pub(crate) enum Step<'a> {
     Item(usize),
 }
 
-/// Where an entry or an item begins.
+/// Where an entry or item begins.
 #[derive(Drop)]
 pub(crate) struct Entry<'a> {
     /// The document from the last part of its key on, or from the item.
@@ -86,7 +86,7 @@ impl<'a> Walk<'a> {
     }
 
     /// Passes an entry of the table that is open, or goes into its inline table if the path leads
-    /// there. Returns the entry or the item where the path ends.
+    /// there. Returns the entry or item where the path ends.
     fn entry(&mut self, entry: &'a str) -> Result<Option<Entry<'a>>, AllocError> {
         let (left, mut key) = self.key(entry, self.left)?;
         let mut value = skip_ws(tail(self.rest, 1));
@@ -141,8 +141,8 @@ impl<'a> Walk<'a> {
     }
 }
 
-/// Returns the offset of the wrong part of the key or the header at an offset: the first that cannot
-/// be extended, or else the last.
+/// Returns the offset of the wrong part of the key or header at an offset: the first that cannot be
+/// extended, or else the last.
 pub(crate) fn wrong_part(alloc: Global, document: &str, at: usize) -> Result<usize, AllocError> {
     // No key of the document is as long.
     let fresh = "x".repeat(alloc, document.len())?;
@@ -163,7 +163,7 @@ pub(crate) fn wrong_part(alloc: Global, document: &str, at: usize) -> Result<usi
     Ok(*parts.first().unwrap_or(&at))
 }
 
-/// Returns the offset of each part of the key or the header at an offset.
+/// Returns the offset of each part of the key or header at an offset.
 fn parts_at(alloc: Global, document: &str, at: usize) -> Result<Vec<usize>, AllocError> {
     let mut parts = Vec::new(alloc);
     let mut part = tail(document, at).trim_start_matches(['[', ' ', '\t']);
@@ -205,6 +205,9 @@ fn next_item(rest: &str) -> &str {
 
 /// Returns the document after the value at the front, where `toml` finds more than a value.
 fn after_value(alloc: Global, value: &str) -> Result<&str, AllocError> {
+    if let Ok((_scalar, rest)) = unquoted(alloc, value) {
+        return Ok(rest);
+    }
     match toml::Value::from_str(alloc, value) {
         Ok(_) => Ok(""),
         Err(error) => Ok(tail(value, error.span().ok_or(AllocError)?.start)),

@@ -57,13 +57,12 @@ pub fn from_toml<T: DeserializeOwned>(alloc: Global, text: &str) -> Result<T, Se
     ensures document { OnOk result (IsSome (parse_document text.now)) }
     ensures position { IfErr result (IsErrorIn text.now) }
 {
-    let refused = match toml::from_str(alloc, text) {
-        Ok(value) => return Ok(value),
-        Err(error) => error,
-    };
+    if let Ok(value) = toml::from_str(alloc, text) {
+        return Ok(value);
+    }
     let error = match toml::from_str::<Traced<T>>(alloc, text) {
         Ok(Traced(Err(rejection))) => rejected(alloc, text, rejection)?,
-        read => toml_error(alloc, text, read.err().unwrap_or(refused))?,
+        read => toml_error(alloc, text, read.err().ok_or(AllocError)?)?,
     };
     Err(settings_error(alloc, text, error)?)
 }

@@ -5,9 +5,9 @@ use std::alloc::{AllocError, Global};
 use std::fmt::{self, Display};
 
 /// An error of a value.
-#[derive(Drop)]
+#[derive(Clone, Drop)]
 pub struct Rejection {
-    /// For each map and sequence around it, the number of the entry or the item, from 0.
+    /// For each map and sequence around it, the number of the entry or item, from 0.
     pub path: Vec<usize>,
     pub part: Part,
     pub cause: Cause,
@@ -59,7 +59,7 @@ pub enum Part {
 }
 
 /// Why a value is rejected.
-#[derive(Drop)]
+#[derive(Clone, Drop)]
 pub enum Cause {
     /// The type says this, or nothing.
     Message(String),
@@ -101,13 +101,14 @@ impl Unexpected<'_> {
     /// Returns whether it is a value of this kind.
     fn is(self, kind: Kind) -> bool {
         match (kind, self) {
-            (Kind::Signed, Unexpected::Integer(_)) => true,
             // To `serde_json`, -0 is a float.
             (Kind::Signed, Unexpected::Number(digits)) => {
                 digits != "-0" && !digits.contains(['.', 'e', 'E'])
             }
-            (Kind::Float, Unexpected::Float(_) | Unexpected::Number(_)) => true,
-            (Kind::Str, Unexpected::Str(_)) | (Kind::Bytes, Unexpected::Seq(_)) => true,
+            (Kind::Signed, Unexpected::Integer(_))
+            | (Kind::Float, Unexpected::Float(_) | Unexpected::Number(_))
+            | (Kind::Str, Unexpected::Str(_))
+            | (Kind::Bytes, Unexpected::Seq(_)) => true,
             _ => false,
         }
     }

@@ -120,7 +120,7 @@ impl<F: Format> Format for Trace<'_, '_, '_, F> {
         self.steps.read(self.from.char(), Kind::Str, "a character")
     }
 
-    // What borrows nothing never asks for this.
+    // The input is not here, so nothing of it is lent.
     fn plain_str(&mut self, _input: &[u8]) -> Result<(usize, usize), Self::Error> {
         Err(self.invalid())
     }
@@ -302,7 +302,7 @@ struct Steps {
     variant: Option<Rejection>,
 }
 
-/// A map or a sequence.
+/// A map or sequence.
 #[derive(Drop)]
 struct Level {
     /// How many entries or items have begun.
@@ -369,8 +369,8 @@ impl Steps {
         }
     }
 
-    fn go(&mut self, part: Part, next: Part, last: Last) {
-        (self.part, self.next, self.last) = (part, next, last);
+    fn go(&mut self, part: Part, last: Last) {
+        (self.part, self.next, self.last) = (part, part, last);
         self.expected.clear();
     }
 
@@ -378,7 +378,7 @@ impl Steps {
     fn see<T, E>(&mut self, seen: Result<T, E>, last: Last) -> Result<T, Stop<E>>
         ensures { IfOk result (λ value. seen ≡ Ok value) }
     {
-        self.go(self.next, self.next, last);
+        self.go(self.next, last);
         seen.map_err(|error| Stop::Other(error, self.invalid()))
     }
 
@@ -386,7 +386,8 @@ impl Steps {
     fn read<T, E>(&mut self, read: Result<T, E>, kind: Kind, expected: &str) -> Result<T, Stop<E>>
         ensures { IfOk result (λ value. read ≡ Ok value) }
     {
-        self.go(self.next, Part::Value, Last::Value);
+        self.go(self.next, Last::Value);
+        self.next = Part::Value;
         // After the name of a variant, its content is looked for in the same map.
         if !matches!(kind, Kind::Map | Kind::Unit) {
             self.variant = None;
@@ -398,7 +399,7 @@ impl Steps {
         Ok(value)
     }
 
-    /// Opens a map or a sequence.
+    /// Opens a map or sequence.
     fn open(&mut self, is_reread: bool) -> Result<(), AllocError> {
         if let Some(level) = self.levels.get_mut(self.depth) {
             (level.len, level.key, level.is_reread) = (0, None, is_reread);
@@ -417,14 +418,14 @@ impl Steps {
         Ok(())
     }
 
-    /// Begins another entry or item, or closes the map or the sequence.
+    /// Begins another entry or item, or closes the map or sequence.
     fn pass(&mut self, is_more: bool, part: Part) -> Result<(), AllocError> {
         if !is_more {
-            self.go(Part::Value, Part::Value, Last::Value);
+            self.go(Part::Value, Last::Value);
             self.depth = self.depth.saturating_sub(1);
             return Ok(());
         }
-        self.go(part, part, Last::Item);
+        self.go(part, Last::Item);
         self.levels.truncate(self.depth);
         if let Some(level) = self.levels.last_mut() {
             level.len = level.len.wrapping_add(1);
@@ -512,7 +513,7 @@ impl Steps {
             (level.len, level.key) = (place.len, place.key);
             level.keys.truncate(place.keys);
         }
-        self.go(place.next, place.next, Last::Rewound);
+        self.go(place.next, Last::Rewound);
     }
 
     fn text(&self, text: &str) -> Result<String, AllocError> {
@@ -561,19 +562,14 @@ impl Steps {
     }
 
     fn unknown_key(&self) -> Rejected {
-        let expected = self.text(&self.expected)?;
-        self.rejection(Part::Key, Cause::UnknownField(expected))
+        self.rejection(Part::Key, Cause::UnknownField(self.text(&self.expected)?))
     }
 
     fn unknown_variant(&self) -> Rejected {
-        if let Some(variant) = &self.variant
-            && let Cause::UnknownVariant(expected) = &variant.cause
-        {
-            let (path, part) = (Vec::from_slice(self.alloc, &variant.path)?, variant.part);
-            let cause = Cause::UnknownVariant(self.text(expected)?);
-            return Ok(Rejection { path, part, cause });
+        match &self.variant {
+            Some(variant) => variant.clone(),
+            None => self.rejection(self.part, Cause::UnknownVariant(self.text("")?)),
         }
-        self.rejection(self.part, Cause::UnknownVariant(self.text("")?))
     }
 
     fn wrong_len(&self) -> Rejected {
