@@ -299,7 +299,7 @@ enum Inside {
 
 #[derive(Drop, Deserialize)]
 #[serde(tag = "kind", content = "of")]
-enum Beside {
+pub(crate) enum Beside {
     Never,
     Once(i8),
     Pair(i8, i8),

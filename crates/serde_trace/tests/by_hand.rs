@@ -1,6 +1,6 @@
 //! Types that read by hand.
 
-use crate::attributes::Server;
+use crate::attributes::{Beside, Server};
 use crate::words::{assert_errors, value};
 use serde::{Case, Deserialize, DeserializeOwned, Deserializer, Format, Kind, Name, NameKind};
 use std::alloc::Global;
@@ -378,7 +378,7 @@ by_hand!(Rest, alloc, from, {
     Ok(Rest)
 });
 
-/// A map of two names, whose keys are read ahead.
+/// A map of two names, whose entries are read ahead, maps as those of numbers.
 #[derive(Drop)]
 struct Keys;
 
@@ -387,7 +387,10 @@ by_hand!(Keys, alloc, from, {
     from.begin_map()?;
     let start = from.mark();
     while from.next_key(&names)?.is_some() {
-        from.skip()?;
+        match from.peek()? {
+            Kind::Map => drop(BTreeMap::<String, i64>::deserialize_owned(alloc, from)?),
+            _ => from.skip()?,
+        }
     }
     from.rewind(start);
     while from.next_key(&names)?.is_some() {
@@ -426,6 +429,19 @@ by_hand!(Passed, _alloc, from, {
     Err(from.invalid())
 });
 
+/// A map that is read for another name, and then as a variant.
+#[derive(Drop)]
+struct Task;
+
+by_hand!(Task, alloc, from, {
+    let start = from.mark();
+    drop(One::deserialize_owned(alloc, from)?);
+    from.rewind(start);
+    from.release(start);
+    drop(Beside::deserialize_owned(alloc, from)?);
+    Ok(Task)
+});
+
 #[test]
 fn maps_that_are_read_ahead(rt: HostRuntime) -> Result<(), Fail> {
     assert_each::<Rest>(
@@ -453,6 +469,21 @@ fn maps_that_are_read_ahead(rt: HostRuntime) -> Result<(), Fail> {
     // Keys that stand for no name are not there twice.
     assert_errors::<Keys>(&rt, "duplicate field `n`\n{ c: { n: 1 } d: { n: 1 ^n: 2 } }")?;
     assert_errors::<Vec<One>>(&rt, "duplicate field `n`\n[ { n: 1 } { n: 1 ^n: 2 } ]")?;
+    // Nor are those that were read before going back.
+    assert_each::<Keys>(
+        &rt,
+        "duplicate field `n`",
+        &[
+            "{ a: { n: 1 ^n: 2 } b: { n: 1 } }",
+            "{ a: { n: 1 } b: { n: 1 ^n: 2 } }",
+        ],
+    )?;
+    assert_each::<Task>(
+        &rt,
+        "missing field `of`",
+        &["{ kind: 'Once ^}", "{ kind: 'Pair ^}", "{ n: 1 kind: 'Named ^}"],
+    )?;
+    assert_each::<Task>(&rt, "missing field `kind`", &["{ of: 1 ^}"])?;
     assert_each::<NoMap>(&rt, "no map", &["^{ b: 1 }", "^{ a: [ ] }", "^{ }"])?;
     assert_each::<Passed>(
         &rt,
@@ -567,6 +598,41 @@ by_hand!(Wide, _alloc, from, {
     from.u128()?;
     Err(from.invalid())
 });
+
+/// A number or the name of a variant, with a wrong length.
+#[derive(Drop)]
+struct NoLength;
+
+by_hand!(NoLength, _alloc, from, {
+    match from.peek()? {
+        Kind::Str => drop(from.variant(&[Name::exact("a")])?),
+        _ => drop(from.u64()?),
+    }
+    Err(from.wrong_len())
+});
+
+/// A tuple of 300 items.
+#[derive(Drop)]
+struct Tuple;
+
+by_hand!(Tuple, _alloc, from, {
+    from.begin_seq()?;
+    for _ in 0..300 {
+        from.expect_item()?;
+        from.skip()?;
+    }
+    from.expect_end()?;
+    Ok(Tuple)
+});
+
+#[test]
+fn a_wrong_length(rt: HostRuntime) -> Result<(), Fail> {
+    assert_each::<NoLength>(&rt, "invalid length 0", &["^5", "^'a", "^'b"])?;
+    let items = " 1".repeat(rt.alloc(), 301)?;
+    let document = format!(in rt.alloc(); "^[{items} ]")?;
+    let message = "invalid length 301, expected a tuple of size 300";
+    assert_each::<Tuple>(&rt, message, &[&document])
+}
 
 #[test]
 fn an_invalid_value(rt: HostRuntime) -> Result<(), Fail> {

@@ -9,10 +9,10 @@ use std::test::Fail;
 
 /// A document of words between spaces, and how many are read.
 ///
-/// Values are `null`, `true`, numbers, `'text`, `[ 1 2 ]` and `{ key: 1 }`. `< key: 1 >` is read
-/// only as a struct, and `( 1 2 )` ends only as a tuple: by the steps that this format has of its
-/// own. `row` begins a sequence that ends with the document, and gives its end as often as it is
-/// asked for. A look at `?` fails, and `!` is fatal.
+/// Values are `null`, `true`, numbers, `'text`, `[ 1 2 ]` and `{ key: 1 }`; a key may be `null:`.
+/// `< key: 1 >` is read only as a struct, and `( 1 2 )` ends only as a tuple: by the steps that
+/// this format has of its own. `row` begins a sequence that ends with the document, and gives its
+/// end as often as it is asked for. A look at `?` fails, and `!` is fatal.
 #[derive(Drop)]
 pub(crate) struct Words<'t> {
     words: &'t [&'t str],
@@ -137,11 +137,11 @@ impl Format for Words<'_> {
     }
 
     fn take_unit(&mut self, _input: &[u8]) -> Result<bool, Wrong> {
-        self.take_if(&["null"])
+        self.take_if(&["null", "null:"])
     }
 
     fn take_none(&mut self, _input: &[u8]) -> Result<bool, Wrong> {
-        self.take_if(&["null"])
+        self.take_if(&["null", "null:"])
     }
 
     fn begin_seq(&mut self, _input: &[u8]) -> Result<(), Wrong> {
@@ -278,10 +278,10 @@ fn end_of(words: &[&str], start: usize) -> usize {
     let mut open = 0_usize;
     for at in start..words.len() {
         let word = words[at];
-        match word {
-            "row" => return words.len() - 1,
-            "[" | "(" | "{" | "<" => open += 1,
-            "]" | ")" | "}" | ">" => open = open.saturating_sub(1),
+        match word.as_bytes() {
+            b"row" => return words.len() - 1,
+            [b'[' | b'(' | b'{' | b'<'] => open += 1,
+            [b']' | b')' | b'}' | b'>'] => open = open.saturating_sub(1),
             _ => {}
         }
         if open == 0 && !word.ends_with(':') {
