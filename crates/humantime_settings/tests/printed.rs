@@ -18,9 +18,8 @@ const HIDDEN: [(u32, u32); 7] = [
 ];
 
 fn is_escaped(c: char) -> bool {
-    HIDDEN
-        .iter()
-        .any(|(first, last)| *first <= c as u32 && c as u32 <= *last)
+    let is_in = |range: &(u32, u32)| range.0 <= c as u32 && c as u32 <= range.1;
+    !matches!(c, ' '..='~') && HIDDEN.iter().any(is_in)
 }
 
 /// Returns a string with its escapes.
@@ -73,10 +72,11 @@ fn assert_shows(
     );
     let before = text[..start].rsplit('\n').next().unwrap_or("");
     let after = text[start..].lines().next().unwrap_or("");
-    let part = &after[..(end - start).min(after.len())];
+    let (part, rest) = after.split_at((end - start).min(after.len()));
     let first = part.chars().next().map_or(0, |c| c.len_utf8());
     let (before, first) = (escaped(rt, before)?, escaped(rt, &part[..first])?);
-    let (part, after) = (escaped(rt, part)?, escaped(rt, after)?);
+    let (part, rest) = (escaped(rt, part)?, escaped(rt, rest)?);
+    let after = format!(in rt.alloc(); "{part}{rest}")?;
     let blanks = carets.trim_end_matches('^');
     let is_blank = blanks.chars().all(|c| c == ' ' || c == '\t');
     assert!(rt; is_blank && blanks.starts_with(indent), "{printed:?}");
@@ -87,11 +87,17 @@ fn assert_shows(
             || front
                 .strip_prefix("...")
                 .is_some_and(|kept| before.ends_with(kept));
+        if !is_front {
+            continue;
+        }
         let kept = match back.strip_suffix("...") {
             Some(kept) if back != after.as_str() => kept,
             _ => back,
         };
         let is_back = back == after.as_str() || kept != back && after.starts_with(kept);
+        if !is_back {
+            continue;
+        }
         let marked = if kept.len() < part.len() {
             kept
         } else {
@@ -100,7 +106,7 @@ fn assert_shows(
         let columns = marked.chars().map(width).sum::<usize>().max(1);
         let is_under = column_after(&line[..at]) == column_after(blanks)
             && carets.len() == blanks.len() + columns;
-        if is_front && is_back && is_under && kept.starts_with(first.as_str()) {
+        if is_under && kept.starts_with(first.as_str()) {
             return Ok(());
         }
     }
