@@ -197,7 +197,9 @@ fn a_megabyte_is_cut(rt: HostRuntime) -> Result<(), Fail> {
         ("\u{1b}", 4, 4),
         ("-中", 12, 12),
     ] {
-        let long = unit.repeat(alloc, (1 << 20) / unit.len())?;
+        // A megabyte of long pieces takes less time than one of short ones.
+        let piece = unit.repeat(alloc, 1 << 10)?;
+        let long = piece.repeat(alloc, (1 << 10) / unit.len() + 1)?;
         let text = format!(in alloc; "{long}~{long}")?;
         let shown = lines_of(alloc, &text, long.len(), long.len() + 1)?;
         let front = Escaped(&unit.repeat(alloc, before)?).to_string(alloc)?;

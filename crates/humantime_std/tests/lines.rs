@@ -49,7 +49,9 @@ fn an_empty_string_has_a_line(rt: HostRuntime) -> Result<(), Fail> {
 
 #[test]
 fn a_unit_after_a_megabyte_is_shown(rt: HostRuntime) -> Result<(), Fail> {
-    let tabs = "\t".repeat(rt.alloc(), 1 << 20)?;
+    let tabs = "\t"
+        .repeat(rt.alloc(), 1 << 10)?
+        .repeat(rt.alloc(), 1 << 10)?;
     let text = format!(in rt.alloc(); "1h\n2{tabs}x\n3h")?;
     let error = parse_duration(&text).expect_err(&rt, "no such unit");
     let report = error.report(&text).to_string(rt.alloc())?;
@@ -64,7 +66,8 @@ fn a_unit_after_a_megabyte_is_shown(rt: HostRuntime) -> Result<(), Fail> {
 #[test]
 fn a_megabyte_after_a_timestamp_is_cut(rt: HostRuntime) -> Result<(), Fail> {
     let alloc = rt.alloc();
-    let text = format!(in alloc; "2018-02-14 00:28:07{}", "x".repeat(alloc, 1 << 20)?)?;
+    let long = "x".repeat(alloc, 1 << 10)?.repeat(alloc, 1 << 10)?;
+    let text = format!(in alloc; "2018-02-14 00:28:07{long}")?;
     let error = parse_rfc3339_weak(&text).expect_err(&rt, "it is no timestamp");
     let report = error.report(&text).to_string(alloc)?;
     let lines = report
