@@ -44,6 +44,13 @@ enum Stop<E> {
     Other(E, Rejected),
 }
 
+/// Returns the stop of an error of the other format. Out of line, it costs nothing where none is.
+#[cold]
+#[inline(never)]
+fn other<E>(error: E, why: Rejected) -> Stop<E> {
+    Stop::Other(error, why)
+}
+
 impl<E> From<AllocError> for Stop<E> {
     fn from(refused: AllocError) -> Self {
         Stop::Own(Err(refused))
@@ -379,7 +386,10 @@ impl Steps {
         ensures { IfOk result (λ value. seen ≡ Ok value) }
     {
         self.go(self.next, last);
-        seen.map_err(|error| Stop::Other(error, self.invalid()))
+        match seen {
+            Ok(value) => Ok(value),
+            Err(error) => Err(other(error, self.invalid())),
+        }
     }
 
     /// Reads what is next, where this is expected.
@@ -389,14 +399,18 @@ impl Steps {
         self.go(self.next, Last::Value);
         self.next = Part::Value;
         // After the name of a variant, its content is looked for in the same map.
-        if !matches!(kind, Kind::Map | Kind::Unit) {
+        if self.variant.is_some() && !matches!(kind, Kind::Map | Kind::Unit) {
             self.variant = None;
         }
-        let value = read.map_err(|error| Stop::Other(error, self.unexpected(kind, expected)))?;
-        if let Kind::Signed = kind {
-            self.last = Last::Integer;
+        match read {
+            Ok(value) => {
+                if let Kind::Signed = kind {
+                    self.last = Last::Integer;
+                }
+                Ok(value)
+            }
+            Err(error) => Err(other(error, self.unexpected(kind, expected))),
         }
-        Ok(value)
     }
 
     /// Opens a map or sequence.
