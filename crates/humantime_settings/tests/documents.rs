@@ -590,6 +590,8 @@ const OF_KEYS: &[Row<'static>] = &[
         "invalid character at 1",
         &[
             "[ counts . '1^~^' ]\n",
+            r#"counts."\u0031^~^" = 1"#,
+            r#"{"counts":{"\u0031^~^":1}}"#,
             "counts.'1^~^'.x = 1\ncounts.'1~'.y = 1",
             "counts.'1^~^'.a = 1\ncounts.'1~'.b = 1\ncounts.'1~'.c = 1\ncounts.'1~'.d = 1\n\
             counts.'1~'.e = 1\ncounts.'1~'.f = 1\ncounts.'1~'.g = 1\ncounts.'1~'.h = 1\n\

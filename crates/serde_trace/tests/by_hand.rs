@@ -599,15 +599,59 @@ by_hand!(Wide, _alloc, from, {
     Err(from.invalid())
 });
 
-/// A number or the name of a variant, with a wrong length.
+/// A map of one name, which is rejected at another key.
+#[derive(Drop)]
+struct Only;
+
+by_hand!(Only, _alloc, from, {
+    from.begin_map()?;
+    while let Some(at) = from.next_key(&[Name::exact("a")])? {
+        if at > 0 {
+            return Err(from.invalid());
+        }
+        from.skip()?;
+    }
+    Ok(Only)
+});
+
+#[test]
+fn a_key_that_is_invalid(rt: HostRuntime) -> Result<(), Fail> {
+    assert_each::<Only>(&rt, "invalid value", &["{ ^b: 1 }", "{ a: 1 ^b: 2 }"])
+}
+
+#[derive(Drop)]
+struct Bytes;
+
+by_hand!(Bytes, alloc, from, {
+    drop(from.byte_buf(alloc)?);
+    Ok(Bytes)
+});
+
+#[test]
+fn a_byte_array(rt: HostRuntime) -> Result<(), Fail> {
+    let _bytes: Bytes = value(&rt, "'ab")?;
+    assert_each::<Bytes>(&rt, "invalid type: integer `5`, expected byte array", &["^5"])?;
+    let message = "invalid value: sequence, expected byte array";
+    assert_each::<Bytes>(&rt, message, &["^[ 300 ]", "^[ ]"])
+}
+
+/// A value with a wrong length, whatever the last step has read.
 #[derive(Drop)]
 struct NoLength;
 
 by_hand!(NoLength, _alloc, from, {
+    let start = from.mark();
     match from.peek()? {
+        Kind::Bool => drop(from.take_unit()?),
+        Kind::Unit => drop(from.take_none()?),
         Kind::Str => drop(from.variant(&[Name::exact("a")])?),
+        Kind::Seq => {
+            from.skip()?;
+            from.rewind(start);
+        }
         _ => drop(from.u64()?),
     }
+    from.release(start);
     Err(from.wrong_len())
 });
 
@@ -627,7 +671,9 @@ by_hand!(Tuple, _alloc, from, {
 
 #[test]
 fn a_wrong_length(rt: HostRuntime) -> Result<(), Fail> {
-    assert_each::<NoLength>(&rt, "invalid length 0", &["^5", "^'a", "^'b"])?;
+    let documents = ["^5", "^'a", "^'b", "^true", "^null"];
+    assert_each::<NoLength>(&rt, "invalid length 0", &documents)?;
+    assert_each::<NoLength>(&rt, "invalid length 2", &["^[ 1 2 ]"])?;
     let items = " 1".repeat(rt.alloc(), 301)?;
     let document = format!(in rt.alloc(); "^[{items} ]")?;
     let message = "invalid length 301, expected a tuple of size 300";
