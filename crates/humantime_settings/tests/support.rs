@@ -93,6 +93,32 @@ pub(crate) fn assert_errors(
     Ok(())
 }
 
+/// Asserts the same of a table of lines. A line with a `^` is a document, in which `¶` ends a line,
+/// below its message.
+pub(crate) fn assert_table(
+    rt: &(impl Abort + AllocGlobal),
+    reads: [Read; 2],
+    names: &[(&str, &str)],
+    table: &str,
+) -> Result<(), Fail> {
+    let (alloc, mut wrong) = (rt.alloc(), String::new(rt.alloc()));
+    let (mut message, mut is_asked) = (String::new(alloc), true);
+    for line in table.trim().lines().map(str::trim) {
+        if line.contains('^') {
+            let document = filled(rt, line, names)?.replace(alloc, '¶', "\n")?;
+            let read = reader(reads, &document);
+            wrong.push_str(&difference(rt, read, &document, Some(&message))?)?;
+            is_asked = true;
+        } else if !line.starts_with("//") {
+            assert!(rt; is_asked, "no document has this error: {message}");
+            (message, is_asked) = (filled(rt, line, names)?, false);
+        }
+    }
+    assert!(rt; is_asked, "no document has this error: {message}");
+    assert!(rt; wrong.is_empty(), "{wrong}");
+    Ok(())
+}
+
 /// Returns how the error of a document differs from the one that is marked in it and, if it is
 /// known, its message: a line each of what is found and what is wanted, or nothing.
 pub(crate) fn difference(
