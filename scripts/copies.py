@@ -10,6 +10,8 @@ from tempfile import TemporaryDirectory
 
 ROOT = Path(__file__).resolve().parent.parent
 CRATES = ROOT / "crates"
+# Where `./check` has `rt ci` prove and build them.
+BUILT = Path(os.environ.get("BUILT", CRATES))
 # What each crate stands on; and the crates of the repository below each, which stand above it in crates.txt, with itself.
 STANDS_ON = {name: others.split() for name, others in re.findall(r"^(\w+):(.*)", (ROOT / "crates.txt").read_text(encoding="utf-8"), re.M)}
 BELOW = {}
@@ -86,11 +88,11 @@ def once(crates, attempt, *given):
 
 def builds(crate):
     """Returns the builds of a crate's program, by both back ends, newer than its sources. If there is none, LLVM makes one first."""
-    paths = [CRATES / crate / "out" / name for name in (crate, f"{crate}.by-rattle")]
+    paths = [BUILT / crate / "out" / name for name in (crate, f"{crate}.by-rattle")]
     changed = max(path.stat().st_mtime for name in BELOW[crate] for path in (CRATES / name / "src").rglob("*.rt"))
     made = [str(path) for path in paths if path.exists() and path.stat().st_mtime > changed]
     said = "" if made else rt(ROOT, crate, "run").stdout
-    return made or [str(paths[0])] * (f"rt: running out/{crate};" in said) or sys.exit(f"{crate} was not built: {said[-3000:]}")
+    return made or [str(CRATES / crate / "out" / crate)] * (f"rt: running out/{crate};" in said) or sys.exit(f"{crate} was not built: {said[-3000:]}")
 
 
 def finish(script, passed, failed, reported=""):
