@@ -1,10 +1,11 @@
 //! What a JSON document has where a path leads.
 
-use crate::json_syntax::{after_entries, after_space, value_of};
+use crate::json_syntax::{after_entries, after_key, after_space};
 use crate::text::offset_of;
 use json::{MAX_DEPTH, Reader, Scratch, Token};
 use serde_trace::{Part, Rejection, Unexpected};
 use std::alloc::AllocError;
+use toml_parser::text::first;
 
 /// Returns the offset of what is rejected, and what is there.
 pub(crate) fn found_at<'a>(
@@ -15,7 +16,10 @@ pub(crate) fn found_at<'a>(
     let (mut entry, mut value) = (document, after_space(document));
     for number in &rejection.path {
         entry = pass_entries(value, *number).0;
-        value = after_space(value_of(entry, value.starts_with('{')).unwrap_or(entry));
+        value = match first(value) {
+            b'{' => after_key(entry).unwrap_or(entry),
+            _ => entry,
+        };
     }
     let rest = match rejection.part {
         Part::Key => entry,

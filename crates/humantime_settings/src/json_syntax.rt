@@ -11,7 +11,7 @@ type Stop = (usize, &'static str);
 /// Returns the offset at which a document is not JSON, and why, or `None` if it is JSON with at
 /// most 127 objects and arrays in one another.
 pub(crate) fn syntax_error(document: &str) -> Option<(usize, &'static str)> {
-    let (left, why) = match after_value(document, 127) {
+    let (left, why) = match after_value(after_space(document), 127) {
         Ok("") => return None,
         Ok(rest) => (rest.len(), "trailing characters"),
         Err((0, _)) => (0, "EOF while parsing"),
@@ -28,8 +28,7 @@ pub(crate) fn after_space(rest: &str) -> &str {
 /// Returns the document after the value at the front and white space, if so many objects and arrays
 /// can be in one another.
 #[cycle(value)]
-fn after_value(front: &str, depth: usize) -> Result<&str, Stop> {
-    let value = after_space(front);
+fn after_value(value: &str, depth: usize) -> Result<&str, Stop> {
     let rest = match first(value) {
         b'"' => after_string(tail(value, 1))?,
         b'-' | b'0'..=b'9' => after_number(value)?,
@@ -54,8 +53,10 @@ pub(crate) fn after_entries(list: &str, count: usize, depth: usize) -> Result<(&
         if rest.starts_with(close) {
             return Ok((rest, passed));
         }
-        let value = value_of(rest, close == '}')?;
-        rest = next_entry(after_value(value, depth)?, close)?;
+        if close == '}' {
+            rest = after_key(rest)?;
+        }
+        rest = next_entry(after_value(rest, depth)?, close)?;
     }
     Ok((rest, count))
 }
@@ -73,16 +74,14 @@ fn next_entry(rest: &str, close: char) -> Result<&str, Stop> {
     }
 }
 
-/// Returns the document from an item on, or after the key and the colon of a member.
-pub(crate) fn value_of(entry: &str, is_member: bool) -> Result<&str, Stop> {
-    if !is_member {
-        return Ok(entry);
-    }
-    let key = entry
+/// Returns the document from the value of the member at the front on.
+pub(crate) fn after_key(member: &str) -> Result<&str, Stop> {
+    let key = member
         .strip_prefix('"')
-        .ok_or((entry.len(), "key must be a string"))?;
+        .ok_or((member.len(), "key must be a string"))?;
     let rest = after_space(after_string(key)?);
-    rest.strip_prefix(':').ok_or((rest.len(), "expected `:`"))
+    let value = rest.strip_prefix(':').map(after_space);
+    value.ok_or((rest.len(), "expected `:`"))
 }
 
 /// Returns the document after the string whose quote has passed. A wrong escape stops it after its
