@@ -45,9 +45,9 @@ use std::alloc::{AllocError, Global};
 /// assert_eq!(rt; waits.len(), 2);
 /// let text = r#"["1s", "1m 30"]"#;
 /// let error = from_json::<Vec<AsText<StdDuration>>>(rt.alloc(), text).err().ok_or("read")?;
-/// let shown = "line 1, column 14: time unit needed, for example 30sec or 30ms\
-///     \n[\"1s\", \"1m 30\"]\
-///     \n             ^";
+/// let shown = r#"line 1, column 14: time unit needed, for example 30sec or 30ms
+/// ["1s", "1m 30"]
+///              ^"#;
 /// assert_eq!(rt; error.to_string(rt.alloc())?.as_str(), shown);
 /// ```
 pub fn from_json<T: DeserializeOwned>(alloc: Global, text: &str) -> Result<T, SettingsError>

@@ -48,9 +48,9 @@ use toml_parser::ErrorKind;
 /// assert_eq!(rt; waits.get("second"), Some(&AsText(StdDuration::from_secs(90))));
 /// let text = "first = '1s'\nsecond = '1m 30'\n";
 /// let error = from_toml::<Waits>(rt.alloc(), text).err().ok_or("read")?;
-/// let shown = "line 2, column 16: time unit needed, for example 30sec or 30ms\
-///     \nsecond = '1m 30'\
-///     \n               ^";
+/// let shown = "line 2, column 16: time unit needed, for example 30sec or 30ms
+/// second = '1m 30'
+///                ^";
 /// assert_eq!(rt; error.to_string(rt.alloc())?.as_str(), shown);
 /// ```
 pub fn from_toml<T: DeserializeOwned>(alloc: Global, text: &str) -> Result<T, SettingsError>
