@@ -24,7 +24,6 @@ impl<T: DeserializeOwned> DeserializeOwned for Traced<T> {
         if read.is_err() {
             from.rewind(start);
         }
-        // Nothing is read again, so the other format need not keep it.
         from.release(start);
         if read.is_err() {
             from.skip()?;
@@ -34,21 +33,14 @@ impl<T: DeserializeOwned> DeserializeOwned for Traced<T> {
 }
 
 /// What is wrong with a value, unless memory is refused.
-type Rejected = Result<Rejection, AllocError>;
+type Rejected = Result<Box<Rejection>, AllocError>;
 
-/// Why a step fails.
+/// Why a step fails, in boxes, since a result is copied even where nothing fails.
 #[derive(Drop)]
 enum Stop<E> {
     Own(Rejected),
     /// The other format has this error, which is told as a rejection if it is not fatal.
-    Other(E, Rejected),
-}
-
-/// Returns the stop of an error of the other format. Out of line, it costs nothing where none is.
-#[cold]
-#[inline(never)]
-fn other<E>(error: E, why: Rejected) -> Stop<E> {
-    Stop::Other(error, why)
+    Other(Box<E>, Rejected),
 }
 
 impl<E> From<AllocError> for Stop<E> {
@@ -70,12 +62,14 @@ impl<F: Format> Trace<'_, '_, '_, F> {
         let read = T::deserialize_owned(self.steps.alloc, &mut Deserializer::new(&[], &mut self));
         let why = match read {
             Ok(value) => return Ok(Ok(value)),
-            Err(Stop::Other(error, _why)) if self.from.is_fatal(&error) => return Err(error),
+            Err(Stop::Other(error, _why)) if self.from.is_fatal(&error) => {
+                return Err(Box::into_inner(error));
+            }
             Err(Stop::Other(_error, why)) => why,
             Err(Stop::Own(why)) => why,
         };
         match why {
-            Ok(rejection) => Ok(Err(rejection)),
+            Ok(rejection) => Ok(Err(Box::into_inner(rejection))),
             Err(AllocError) => Err(self.from.no_memory()),
         }
     }
@@ -185,7 +179,7 @@ impl<F: Format> Format for Trace<'_, '_, '_, F> {
         self.steps.pass(end.is_err(), Part::Value)?;
         match end {
             Ok(()) => Ok(()),
-            Err(error) => Err(Stop::Other(error, self.steps.wrong_len())),
+            Err(error) => Err(self.steps.boxed(error, self.steps.wrong_len())),
         }
     }
 
@@ -306,7 +300,7 @@ struct Steps {
     /// What is expected in place of the last key, if it is unknown.
     expected: String,
     /// What is wrong with the last unknown variant, until a value but a map is read.
-    variant: Option<Rejection>,
+    variant: Option<Box<Rejection>>,
 }
 
 /// A map or sequence.
@@ -382,18 +376,21 @@ impl Steps {
     }
 
     /// Looks at what is next, and tells an error by `last`.
-    fn see<T, E>(&mut self, seen: Result<T, E>, last: Last) -> Result<T, Stop<E>>
+    fn see<T, E: Drop>(&mut self, seen: Result<T, E>, last: Last) -> Result<T, Stop<E>>
         ensures { IfOk result (λ value. seen ≡ Ok value) }
     {
         self.go(self.next, last);
         match seen {
             Ok(value) => Ok(value),
-            Err(error) => Err(other(error, self.invalid())),
+            Err(error) => Err(self.boxed(error, self.invalid())),
         }
     }
 
     /// Reads what is next, where this is expected.
+    #[inline(always)]
     fn read<T, E>(&mut self, read: Result<T, E>, kind: Kind, expected: &str) -> Result<T, Stop<E>>
+    where
+        E: Drop,
         ensures { IfOk result (λ value. read ≡ Ok value) }
     {
         self.go(self.next, Last::Value);
@@ -409,7 +406,14 @@ impl Steps {
                 }
                 Ok(value)
             }
-            Err(error) => Err(other(error, self.unexpected(kind, expected))),
+            Err(error) => Err(self.boxed(error, self.unexpected(kind, expected))),
+        }
+    }
+
+    fn boxed<E: Drop>(&self, error: E, why: Rejected) -> Stop<E> {
+        match Box::new(self.alloc, error) {
+            Ok(error) => Stop::Other(error, why),
+            Err(_refused) => AllocError.into(),
         }
     }
 
@@ -440,8 +444,10 @@ impl Steps {
             return Ok(());
         }
         self.go(part, Last::Item);
-        self.levels.truncate(self.depth);
-        if let Some(level) = self.levels.last_mut() {
+        if let Some(ended) = self.levels.get_mut(self.depth) {
+            ended.missing.clear();
+        }
+        if let Some(level) = self.levels.get_mut(self.depth.wrapping_sub(1)) {
             level.len = level.len.wrapping_add(1);
             if let Some(key) = level.key.take()
                 && !level.keys.contains(&key)
@@ -507,10 +513,8 @@ impl Steps {
 
     fn place(&self) -> Place {
         let (depth, next) = (self.depth, self.next);
-        let (len, key, keys) = match self.levels.get(depth.wrapping_sub(1)) {
-            Some(level) => (level.len, level.key, level.keys.len()),
-            None => (0, None, 0),
-        };
+        let level = self.levels.get(depth.wrapping_sub(1));
+        let (len, key, keys) = level.map_or((0, None, 0), |it| (it.len, it.key, it.keys.len()));
         Place {
             depth,
             len,
@@ -550,7 +554,7 @@ impl Steps {
                 break;
             }
         }
-        Ok(Rejection { path, part, cause })
+        Ok(Box::new(self.alloc, Rejection { path, part, cause })?)
     }
 
     fn message(&self, part: Part, message: &str) -> Rejected {
