@@ -37,21 +37,19 @@ use std::time;
 ///
 /// ```
 /// use humantime::StdDuration;
-/// use serde::{Described, Serialize, Serializer};
+/// use serde::Serialize;
 ///
-/// #[derive(Drop)]
-/// struct Pause(StdDuration);
-///
-/// impl Described for Pause {}
-///
-/// impl Serialize for Pause {
-///     fn serialize<S: Serializer>(&self, out: &mut S) -> Result<(), S::Error> {
-///         humantime_settings::serialize(&self.0, out)
-///     }
+/// #[derive(Drop, Serialize)]
+/// struct Pause {
+///     #[serde(serialize_with = "humantime_settings::serialize")]
+///     wait: StdDuration,
 /// }
 ///
-/// let pause = Pause(StdDuration::from_secs(90));
-/// assert_eq!(rt; serde_json::to_string(rt.alloc(), &pause)?.as_str(), "\"1m 30s\"");
+/// fn main(rt: HostRuntime) -> serde_json::Result<()> {
+///     let text = serde_json::to_string(rt.alloc(), &Pause { wait: StdDuration::from_secs(90) })?;
+///     assert_eq!(rt; text.as_str(), r#"{"wait":"1m 30s"}"#);
+///     Ok(())
+/// }
 /// ```
 pub fn serialize<T: Field, S: Serializer>(value: &T, out: &mut S) -> Result<(), S::Error>
     ensures { OnOk result (WritesOne (T.IsWrittenAs value.now) (T.IsReadFrom value.now)
@@ -81,23 +79,19 @@ pub fn serialize<T: Field, S: Serializer>(value: &T, out: &mut S) -> Result<(), 
 ///
 /// ```
 /// use humantime::StdDuration;
-/// use serde::{Deserialize, Deserializer, Format};
-/// use std::alloc::Global;
+/// use serde::Deserialize;
 ///
-/// #[derive(Drop)]
-/// struct Pause(StdDuration);
-///
-/// impl<'de> Deserialize<'de> for Pause {
-///     fn deserialize<F: Format>(
-///         alloc: Global,
-///         from: &mut Deserializer<'de, '_, F>,
-///     ) -> Result<Pause, F::Error> {
-///         Ok(Pause(humantime_settings::deserialize(alloc, from)?))
-///     }
+/// #[derive(Drop, Deserialize)]
+/// struct Pause {
+///     #[serde(deserialize_with = "humantime_settings::deserialize")]
+///     wait: StdDuration,
 /// }
 ///
-/// let pause: Pause = serde_json::from_str(rt.alloc(), "\"1.5min\"")?;
-/// assert_eq!(rt; pause.0, StdDuration::from_secs(90));
+/// fn main(rt: HostRuntime) -> serde_json::Result<()> {
+///     let pause: Pause = serde_json::from_str(rt.alloc(), r#"{"wait":"1.5min"}"#)?;
+///     assert_eq!(rt; pause.wait, StdDuration::from_secs(90));
+///     Ok(())
+/// }
 /// ```
 pub fn deserialize<'de, T: Field, F: Format>(
     alloc: Global,
@@ -124,7 +118,6 @@ pub fn deserialize<'de, T: Field, F: Format>(
 /// use humantime_settings::{AsText, Field};
 /// use std::alloc::Global;
 ///
-/// /// Returns a value as a string in JSON.
 /// fn json<T: Field>(alloc: Global, value: T) -> serde_json::Result<String> {
 ///     serde_json::to_string(alloc, &AsText(value))
 /// }
