@@ -9,12 +9,12 @@ ghost use Rattle.humantime_settings.specs.Positions.{IsErrorIn, line_of};
 
 use crate::error::{SettingsError, settings_error};
 use crate::error_range::{message_at, rejection_error};
-use crate::json_positions::found_at;
-use crate::json_syntax::syntax_error;
-use crate::text::offset_of;
+use crate::json_syntax::{after_key, after_space, syntax_error};
+use crate::text::{offset_of, tail};
 use humantime_std::located::Located;
+use json::{Reader, Scratch, Token};
 use serde::{Deserialize, DeserializeOwned, Deserializer, Format, Serialize};
-use serde_trace::Traced;
+use serde_trace::{Part, Rejection, Traced, Unexpected};
 use std::alloc::{AllocError, Global};
 
 /// Reads settings in JSON.
@@ -57,14 +57,14 @@ pub fn from_json<T: DeserializeOwned>(alloc: Global, text: &str) -> Result<T, Se
         Ok(Owned(value)) => return Ok(value),
         Err(error) => error,
     };
-    let traced = if !refused.is_data() && syntax_error(text).is_some() {
-        Err(refused)
-    } else {
+    let mut scratch = Scratch::new(alloc);
+    let traced = if json::is_valid(text, &mut scratch)? {
         serde_json::from_str::<Owned<Traced<T>>>(alloc, text)
+    } else {
+        Err(refused)
     };
     let error = match traced {
         Ok(Owned(Traced(Err(rejection)))) => {
-            let mut scratch = json::Scratch::new(alloc);
             let (at, found) = found_at(text, &rejection, &mut scratch)?;
             rejection_error(alloc, text, at, &rejection, found)?
         }
@@ -130,4 +130,57 @@ fn json_error(
     let line = text.splitn(error.line(), '\n').last().unwrap_or("");
     let at = offset_of(text, line).saturating_add(error.column().saturating_sub(1));
     message_at(alloc, at, message)
+}
+
+/// Returns the offset of what is rejected, and what is there.
+fn found_at<'a>(
+    text: &'a str,
+    rejection: &Rejection,
+    scratch: &'a mut Scratch,
+) -> Result<(usize, Unexpected<'a>), AllocError> {
+    let (mut entry, mut value) = (text, after_space(text));
+    for number in &rejection.path {
+        entry = pass_entries(value, *number).0;
+        // An item has no key.
+        value = after_key(entry).unwrap_or(entry);
+    }
+    let rest = match rejection.part {
+        Part::Key => entry,
+        Part::End if value.starts_with(['{', '[']) => pass_entries(value, usize::MAX).0,
+        _ => value,
+    };
+    let found = match Reader::new(rest, scratch)?.next() {
+        Some(Token::String(text) | Token::Key(text)) => Unexpected::Str(text),
+        Some(Token::Number(digits)) => Unexpected::Number(digits),
+        Some(Token::Bool(b)) => Unexpected::Bool(b),
+        Some(Token::Null) => Unexpected::Null,
+        Some(Token::BeginArray) => Unexpected::Seq(pass_entries(rest, usize::MAX).1),
+        _ => Unexpected::Map,
+    };
+    Ok((offset_of(text, rest), found))
+}
+
+/// Passes so many entries of the list at the front, or all, of a document in JSON. Returns it from
+/// the next one or the last bracket on, and how many have passed.
+fn pass_entries(list: &str, count: usize) -> (&str, usize) {
+    let start = after_space(tail(list, 1));
+    if count == 0 {
+        return (start, 0);
+    }
+    let (mut depth, mut passed) = (0usize, usize::from(!start.starts_with(['}', ']'])));
+    let (mut quoted, mut escaped) = (false, 0);
+    for (at, byte) in list.bytes().enumerate() {
+        match byte {
+            b'\\' if at != escaped => escaped = at + 1,
+            b'"' if at != escaped => quoted = !quoted,
+            b'{' | b'[' if !quoted => depth = depth.wrapping_add(1),
+            b'}' | b']' if !quoted && depth > 1 => depth -= 1,
+            b'}' | b']' if !quoted => return (tail(list, at), passed),
+            b',' if quoted || depth > 1 => (),
+            b',' if passed == count => return (after_space(tail(list, at + 1)), passed),
+            b',' => passed = passed.wrapping_add(1),
+            _ => (),
+        }
+    }
+    (list, 0)
 }

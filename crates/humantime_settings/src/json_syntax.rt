@@ -4,8 +4,7 @@ use crate::text::tail;
 use std::fmt::InlineText;
 use toml_parser::text::first;
 
-/// Where a document stops being JSON: how many bytes are left there, and why. If none is left, the
-/// document is cut, whatever the reason.
+/// How many bytes are left where a document stops being JSON, and why. If none is, it is cut.
 type Stop = (usize, &'static str);
 
 /// Returns the offset at which a document is not JSON, and why, or `None` if it is JSON with at
@@ -33,32 +32,27 @@ fn after_value(value: &str, depth: usize) -> Result<&str, Stop> {
         b'"' => after_string(tail(value, 1))?,
         b'-' | b'0'..=b'9' => after_number(value)?,
         b'{' | b'[' if depth == 0 => return Err((value.len(), "recursion limit exceeded")),
-        b'{' | b'[' => tail(after_entries(value, usize::MAX, depth - 1)?.0, 1),
+        b'{' | b'[' => after_entries(value, depth - 1)?,
         _ => after_word(value)?,
     };
     Ok(after_space(rest))
 }
 
-/// Passes the bracket at the front, and so many members or items, or all. Returns the document from
-/// the next one or the last bracket on, and how many have passed.
+/// Returns the document after the object or array at the front.
 #[cycle(value)]
-pub(crate) fn after_entries(list: &str, count: usize, depth: usize) -> Result<(&str, usize), Stop> {
-    let close = match first(list) {
-        b'{' => '}',
-        b'[' => ']',
-        _ => return Err((list.len(), "expected value")),
-    };
+fn after_entries(list: &str, depth: usize) -> Result<&str, Stop> {
+    let close = if first(list) == b'{' { '}' } else { ']' };
     let mut rest = after_space(tail(list, 1));
-    for passed in 0..count {
+    for _ in 0..list.len() {
         if rest.starts_with(close) {
-            return Ok((rest, passed));
+            break;
         }
         if close == '}' {
             rest = after_key(rest)?;
         }
         rest = next_entry(after_value(rest, depth)?, close)?;
     }
-    Ok((rest, count))
+    Ok(tail(rest, 1))
 }
 
 /// Returns the document from the next member or item, or the last bracket, on.
@@ -93,26 +87,17 @@ fn after_string(content: &str) -> Result<&str, Stop> {
         let Some(escape) = rest.strip_prefix('\\') else {
             break;
         };
-        rest = match escape_len(escape) {
-            Some(len) => tail(escape, len),
-            None if is_cut(escape) => "",
-            None => return Err((escape.len(), "invalid string")),
-        };
+        let len = escape_len(escape).ok_or((escape.len(), "invalid string"))?;
+        rest = tail(escape, len);
     }
     rest.strip_prefix('"').ok_or((rest.len(), "invalid string"))
 }
 
-/// Returns whether the document only lacks the end of the escape: with that of the longest, it is
-/// one.
-fn is_cut(escape: &str) -> bool {
+/// Returns the length of the escape at the front, without its backslash, or of one that is cut.
+fn escape_len(escape: &str) -> Option<usize> {
     let missing = tail("uD800\\uDC00", escape.len());
     let whole = InlineText::<14>::of(escape).and(missing, 11);
-    escape_len(whole.as_str()).is_some()
-}
-
-/// Returns the length of the escape at the front, without its backslash.
-fn escape_len(escape: &str) -> Option<usize> {
-    let Some(digits) = escape.strip_prefix('u') else {
+    let Some(digits) = whole.as_str().strip_prefix('u') else {
         let is_escape = escape.starts_with(['"', '\\', '/', 'b', 'f', 'n', 'r', 't']);
         return is_escape.then_some(1);
     };

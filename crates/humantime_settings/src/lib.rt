@@ -49,7 +49,6 @@
 mod error;
 mod error_range;
 mod fields;
-mod json_positions;
 mod json_settings;
 mod json_syntax;
 mod raw_strings;

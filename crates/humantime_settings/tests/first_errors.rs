@@ -326,6 +326,7 @@ const STRINGS_THAT_LACK_A_PART: &[Row<'static>] = &[(
     &[
         r#"{"list":["b=1",^"a=1"]}"#,
         r#"{"assigned":^"a"}"#,
+        r#"{"assigned":^"]"}"#,
         r#"{"event":{"kind":"again","list":[^"x"]}}"#,
         "list = ['b=1', ^'a=1']",
         "assigned = ^'a'",

@@ -10,5 +10,5 @@ abbrev pub decreases-after_entries : goal.decreases-after_entries
 decreases-after_entries l = 2 * l.depth + 1
 
 -- What is left of the document is text.
-abbrev pub invariant-after_entries-loop-passed : goal.invariant-after_entries-loop-passed
-invariant-after_entries-loop-passed l = shadow (Utf8 l.rest)
+abbrev pub invariant-after_entries-loop : goal.invariant-after_entries-loop
+invariant-after_entries-loop l = shadow (Utf8 l.rest)
