@@ -24,6 +24,7 @@ impl<T: DeserializeOwned> DeserializeOwned for Traced<T> {
         if read.is_err() {
             from.rewind(start);
         }
+        // Nothing is read again, so the other format need not keep it.
         from.release(start);
         if read.is_err() {
             from.skip()?;
@@ -177,10 +178,7 @@ impl<F: Format> Format for Trace<'_, '_, '_, F> {
     fn end_tuple(&mut self, _input: &[u8]) -> Result<(), Self::Error> {
         let end = self.from.expect_end();
         self.steps.pass(end.is_err(), Part::Value)?;
-        match end {
-            Ok(()) => Ok(()),
-            Err(error) => Err(self.steps.boxed(error, self.steps.wrong_len())),
-        }
+        end.map_err(|error| self.steps.boxed(error, self.steps.wrong_len()))
     }
 
     fn begin_struct(&mut self, _input: &[u8]) -> Result<bool, Self::Error> {
@@ -380,10 +378,7 @@ impl Steps {
         ensures { IfOk result (λ value. seen ≡ Ok value) }
     {
         self.go(self.next, last);
-        match seen {
-            Ok(value) => Ok(value),
-            Err(error) => Err(self.boxed(error, self.invalid())),
-        }
+        seen.map_err(|error| self.boxed(error, self.invalid()))
     }
 
     /// Reads what is next, where this is expected.
@@ -399,15 +394,10 @@ impl Steps {
         if self.variant.is_some() && !matches!(kind, Kind::Map | Kind::Unit) {
             self.variant = None;
         }
-        match read {
-            Ok(value) => {
-                if let Kind::Signed = kind {
-                    self.last = Last::Integer;
-                }
-                Ok(value)
-            }
-            Err(error) => Err(self.boxed(error, self.unexpected(kind, expected))),
+        if read.is_ok() && matches!(kind, Kind::Signed) {
+            self.last = Last::Integer;
         }
+        read.map_err(|error| self.boxed(error, self.unexpected(kind, expected)))
     }
 
     fn boxed<E: Drop>(&self, error: E, why: Rejected) -> Stop<E> {
@@ -437,6 +427,7 @@ impl Steps {
     }
 
     /// Begins another entry or item, or closes the map or sequence.
+    #[inline(always)]
     fn pass(&mut self, is_more: bool, part: Part) -> Result<(), AllocError> {
         if !is_more {
             self.go(Part::Value, Last::Value);
