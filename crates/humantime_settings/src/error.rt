@@ -118,7 +118,7 @@ impl SettingsError {
     }
 }
 
-/// Returns the column after the start of a line, as [`SettingsError::column`] counts.
+/// Returns the column after the start of a line, in characters from 1 of which U+FEFF is none.
 #[tactic(auto, using(std::proofs::lemmas::Str::chars_from_encodes))]
 fn column_after(line: &str) -> usize
     ensures { result ≡ spec.columns line.now + 1 }

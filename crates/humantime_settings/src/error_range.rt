@@ -30,11 +30,9 @@ pub(crate) fn rejection_error(
 ) -> Result<Located<String>, AllocError> {
     let message = rejection.message(alloc, found)?;
     if let Unexpected::Str(text) = found {
-        let mut whole = whole_error(alloc, &message, parse_duration(text).err())?;
-        if whole.is_none() {
-            whole = whole_error(alloc, &message, parse_rfc3339_weak(text).err())?;
-        }
-        if let Some(Located { error, start, end }) = whole {
+        let of_duration = whole_error(alloc, &message, parse_duration(text).err())?;
+        let of_time = whole_error(alloc, &message, parse_rfc3339_weak(text).err())?;
+        if let Some(Located { error, start, end }) = of_duration.or(of_time) {
             let (start, end) = raw_range(tail(document, at), text, start, end);
             return Ok(Located { error, start, end }.after(at));
         }

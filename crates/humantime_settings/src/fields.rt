@@ -118,6 +118,7 @@ pub fn deserialize<'de, T: Field, F: Format>(
 /// use humantime_settings::{AsText, Field};
 /// use std::alloc::Global;
 ///
+/// /// Returns a value as a string in JSON.
 /// fn json<T: Field>(alloc: Global, value: T) -> serde_json::Result<String> {
 ///     serde_json::to_string(alloc, &AsText(value))
 /// }

@@ -160,8 +160,9 @@ fn found_at<'a>(
     Ok((offset_of(text, rest), found))
 }
 
-/// Passes so many entries of the list at the front, or all, of a document in JSON. Returns it from
-/// the next one or the last bracket on, and how many have passed.
+/// Passes so many entries of the list at the front, or all, of a document in JSON, by its strings,
+/// brackets and commas. Returns it from the next one or the last bracket on, and how many have
+/// passed.
 fn pass_entries(list: &str, count: usize) -> (&str, usize) {
     let start = after_space(tail(list, 1));
     if count == 0 {

@@ -4,7 +4,8 @@ use crate::text::tail;
 use std::fmt::InlineText;
 use toml_parser::text::first;
 
-/// How many bytes are left where a document stops being JSON, and why. If none is, it is cut.
+/// Where a document stops being JSON: how many bytes are left there, and why. If none is left, the
+/// document is cut, whatever the reason.
 type Stop = (usize, &'static str);
 
 /// Returns the offset at which a document is not JSON, and why, or `None` if it is JSON with at
