@@ -2,8 +2,11 @@
 
 use humantime::{Duration, StdDuration, SystemTime, Timestamp};
 use humantime_settings::{AsText, from_json, from_toml, to_json, to_toml};
-use serde::{Deserialize, DeserializeOwned, Serialize};
+use serde::{
+    Described, Deserialize, DeserializeOwned, Deserializer, Format, Serialize, Serializer,
+};
 use serde_trace::{Traced, Unexpected};
+use std::alloc::Global;
 use std::collections::BTreeMap;
 use std::fmt::Debug;
 use std::process::Abort;
@@ -74,6 +77,47 @@ fn values_are_read_and_written(rt: HostRuntime) -> Result<(), Fail> {
         r#"{"wait":"2\u0068 37m","since":"2018-02-14\u002000:28:07","every":"36h","until":"2018-02-14T00:28:07.5Z","pause":"12µs"}"#,
     ];
     assert_texts(&rt, &values, &json, VALUES_TOML)
+}
+
+/// A wait whose impls by hand call the functions that the derives call.
+#[derive(Debug, Drop, PartialEq)]
+struct Wait(StdDuration);
+
+impl Described for Wait {}
+
+impl Serialize for Wait {
+    fn serialize<S: Serializer>(&self, out: &mut S) -> Result<(), S::Error> {
+        humantime_settings::serialize(&self.0, out)
+    }
+}
+
+impl<'de> Deserialize<'de> for Wait {
+    fn deserialize<F: Format>(
+        alloc: Global,
+        from: &mut Deserializer<'de, '_, F>,
+    ) -> Result<Wait, F::Error> {
+        Ok(Wait(humantime_settings::deserialize(alloc, from)?))
+    }
+}
+
+impl DeserializeOwned for Wait {
+    fn deserialize_owned<F: Format>(
+        alloc: Global,
+        from: &mut Deserializer<'_, '_, F>,
+    ) -> Result<Wait, F::Error> {
+        Ok(Wait(humantime_settings::deserialize(alloc, from)?))
+    }
+}
+
+#[test]
+fn impls_by_hand_read_and_write(rt: HostRuntime) -> Result<(), Fail> {
+    let mut waits = BTreeMap::new(rt.alloc());
+    waits.insert(
+        String::from_str(rt.alloc(), "wait")?,
+        Wait(StdDuration::from_secs(90)),
+    )?;
+    let json = [r#"{"wait":"1m 30s"}"#, r#"{"wait":"90s"}"#];
+    assert_texts(&rt, &waits, &json, "wait = \"1m 30s\"\n")
 }
 
 #[derive(Debug, Drop, PartialEq, Serialize, Deserialize)]
