@@ -12,8 +12,7 @@ pub(crate) fn raw_range(document: &str, text: &str, start: usize, end: usize) ->
         first = after_folds(after(content, text, start));
         last = after(content, text, end);
     }
-    let first = offset_of(document, first);
-    (first, offset_of(document, last).max(first))
+    (offset_of(document, first), offset_of(document, last))
 }
 
 /// Returns what is after the quotes, if the document begins with any. A line feed just after
