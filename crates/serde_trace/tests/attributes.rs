@@ -72,11 +72,13 @@ fn keys_of_a_struct(rt: HostRuntime) -> Result<(), Fail> {
 
 #[derive(Drop, Deserialize)]
 struct Around {
+    #[serde(default)]
+    port: u16,
     #[serde(deserialize_with = "by_hand")]
     server: Server,
 }
 
-/// Reads a server, or passes what is no map.
+/// Reads a server, or passes what is no map, twice.
 fn by_hand<'de, F: Format>(
     alloc: Global,
     from: &mut Deserializer<'de, '_, F>,
@@ -84,6 +86,10 @@ fn by_hand<'de, F: Format>(
     if let Kind::Map = from.peek()? {
         return Server::deserialize(alloc, from);
     }
+    let start = from.mark();
+    from.skip()?;
+    from.rewind(start);
+    from.release(start);
     from.skip()?;
     Ok(Server {
         host_name: String::new(alloc),
@@ -101,6 +107,7 @@ fn a_key_twice_around_a_key_twice(rt: HostRuntime) -> Result<(), Fail> {
             { server: { label: 'a } ^server: { label: 'b label: 'c } }
             { server: { label: 'a } ^server: { x: 1 } }
             { server: 5 ^server: { label: 'b label: 'c } }
+            { port: 1 server: 5 ^server: { label: 'b label: 'c } }
         duplicate field `label`
             { server: { label: 'a ^label: 'b } server: 5 }
         ",
