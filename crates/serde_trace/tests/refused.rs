@@ -17,6 +17,7 @@ struct Tried {
 enum Any {
     Name(Name),
     Map { a_b: u8 },
+    Word { word: String, more: Option<u8> },
     List(u8, u8),
 }
 
@@ -28,7 +29,7 @@ enum Name {
 
 /// Documents, and the number of entries and items in the path of their errors.
 const DOCUMENTS: [(&str, usize); 8] = [
-    ("{ own-name: 'x any: [ 'First { a_b: 1 } [ 1 2 ] ] }", 0),
+    ("{ own-name: 'x any: [ 'First { a_b: 1 } { word: 'y } [ 1 2 ] ] }", 0),
     ("{ own-name: 'x own-name: 'y }", 1),
     ("{ other: 1 }", 1),
     ("{ own-name: 5 }", 1),
