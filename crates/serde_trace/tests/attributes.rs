@@ -72,8 +72,8 @@ fn keys_of_a_struct(rt: HostRuntime) -> Result<(), Fail> {
 
 #[derive(Drop, Deserialize)]
 struct Around {
-    #[serde(default)]
-    port: u16,
+    #[serde(deserialize_with = "by_hand")]
+    other: Server,
     #[serde(deserialize_with = "by_hand")]
     server: Server,
 }
@@ -107,7 +107,8 @@ fn a_key_twice_around_a_key_twice(rt: HostRuntime) -> Result<(), Fail> {
             { server: { label: 'a } ^server: { label: 'b label: 'c } }
             { server: { label: 'a } ^server: { x: 1 } }
             { server: 5 ^server: { label: 'b label: 'c } }
-            { port: 1 server: 5 ^server: { label: 'b label: 'c } }
+            { other: 5 server: 5 ^server: { label: 'b label: 'c } }
+            { server: 5 other: 5 ^server: { label: 'b label: 'c } }
         duplicate field `label`
             { server: { label: 'a ^label: 'b } server: 5 }
         ",

@@ -125,10 +125,14 @@ by_hand!(Palette, alloc, from, {
         if !from.next_entry()? {
             break;
         }
-        if from.string(alloc)?.as_str() != "red" {
-            return Err(from.unknown_key());
+        match from.string(alloc)?.as_str() {
+            "red" => from.skip()?,
+            "blue" => {
+                from.skip()?;
+                return Err(from.unknown_key());
+            }
+            _ => return Err(from.unknown_key()),
         }
-        from.skip()?;
     }
     Ok(Palette)
 });
@@ -161,6 +165,7 @@ fn an_unknown_key_of_an_entry(rt: HostRuntime) -> Result<(), Fail> {
             { palette: ^[ 1 ] }
         ",
     )?;
+    assert_each::<Palette>(&rt, "unknown field `blue`", &["{ red: 1 ^blue: [ 2 ] }"])?;
     assert_each::<Palette>(
         &rt,
         "unknown field `green`",
