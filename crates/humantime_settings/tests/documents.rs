@@ -133,6 +133,7 @@ const ERRORS: &[Row<'static>] = &[
             ['job.every']",
             "timeout = '2h'\n'more.every' = 5\nJOB\n[[more]]\nname = 'a'\nsince = '2018-02-14 \
             00:28:07'\n^[more.every]",
+            "timeout = '2h'\n[\tjob\t]\nname = 'a'\nevery = ^7\nsince = '2018-02-14 00:28:07'",
             "waits = ['1s', ^2]",
             "[limits]\n^a.b = '1s'\n",
         ],
